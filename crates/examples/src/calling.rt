@@ -6,6 +6,7 @@
 //! - [`emptied`]: closures whose values meet a condition.
 //! - [`tickets`]: a condition of one's own, and a maker that refuses.
 //! - [`writers`]: a limit, and owned items in threads.
+//! - [`channel`]: owned items over a channel.
 //! - [`attached`]: an item that was made elsewhere.
 //! - [`handed_on`]: a function that hands a pulled item on.
 //! - [`stores`]: types that keep a pool.
@@ -17,6 +18,7 @@
 
 mod attached;
 mod basket;
+mod channel;
 mod connections;
 mod counted;
 mod defaults;

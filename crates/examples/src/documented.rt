@@ -2,6 +2,8 @@
 //! compares the lines.
 //!
 //! - [`linear`], [`fixed`], [`lazy`], [`stacks`], [`none`]: the pools, and their reusables.
+//! - [`workers`]: workers of a pool, which keep an item.
+//! - [`stack_notes`]: what notes of a spin lock pool know.
 //! - [`rejecting`]: a reset that rejects values.
 //! - [`recycled`]: the pools of a recyclable type.
 //! - [`parts`]: pages, chains, stacks of kept values, and locks.
@@ -17,4 +19,6 @@ mod none;
 mod parts;
 mod recycled;
 mod rejecting;
+mod stack_notes;
 mod stacks;
+mod workers;

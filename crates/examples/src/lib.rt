@@ -9,6 +9,8 @@
 //!    one.
 //! 4. [`letters`]: messages that go to another thread, and whose room comes home by itself. A
 //!    letter holds what its writer put there.
+//! 5. [`word_counts`]: threads that count words. Each has a worker of one pool, and so the same
+//!    scratch for each line.
 //!
 //! The callers of `CALLING.md`, a page or less each, are in [`calling`], and the code of doc
 //! comments in [`documented`].
@@ -26,3 +28,4 @@ pub mod letters;
 pub mod palindromes;
 pub mod replies;
 pub mod sessions;
+pub mod word_counts;

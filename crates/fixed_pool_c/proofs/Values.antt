@@ -1,4 +1,4 @@
--- The machine values of a `Loose` and of a `Handle`. Assumes `Logic`.
+-- The machine values of a `RawBox` and of a `Handle`. Assumes `Logic`.
 use Rattle.std.proofs.Common.{◌≡◌, ℕ, List, [], ◌∷◌, ◌++◌, refl, subst, lit<}
 use mathlib.Core.Bool.{true, ◌&&◌}
 use lib.Dec.{T}
@@ -29,18 +29,18 @@ use Rattle.std_alloc.specs.Box.Ownership.{box_owns}
 use Rattle.std_alloc.proofs.BoxSteps.Form.{Bx}
 use Rattle.std_alloc.proofs.ResultValues.{and_tt}
 use Rattle.std_heap.proofs.GlobalToken.{dealloc_token-Testable}
-use Rattle.fixed_pool_c.specs.contracts.loose.Loose as loose
+use Rattle.fixed_pool_c.specs.contracts.raw_box.RawBox as raw
 use Rattle.fixed_pool_c.specs.contracts.handle.Handle as handle
-use Rattle.fixed_pool_c.specs.contracts.held.Held as held
+use Rattle.fixed_pool_c.specs.contracts.open_handle.OpenHandle as held
 use Rattle.std_heap.specs.contracts.Global as heap
 use Rattle.std_heap.proofs.Global.TheLaws as heap_laws
 use Rattle.std_heap.specs.contracts.GlobalAllocator.TheImpl as heap_impl
 use Rattle.std_heap.specs.declared.Global.{Global}
-use Rattle.fixed_pool_c.specs.contracts.held.Last as last
-use Rattle.fixed_pool_c.proofs.held.Last.TheLaws as last_laws
-use Rattle.fixed_pool_c.specs.declared.held.Held.{Held}
-use Rattle.fixed_pool_c.specs.declared.held.Last.{Last}
-use Rattle.fixed_pool_c.specs.HandleOwns.{handle_owns, last_owns}
+use Rattle.fixed_pool_c.specs.contracts.open_handle.FinalNote as last
+use Rattle.fixed_pool_c.proofs.open_handle.FinalNote.TheLaws as last_laws
+use Rattle.fixed_pool_c.specs.declared.open_handle.OpenHandle.{OpenHandle}
+use Rattle.fixed_pool_c.specs.declared.open_handle.FinalNote.{FinalNote}
+use Rattle.fixed_pool_c.specs.HandleOwns.{handle_owns, final_note_owns}
 use Rattle.std.specs.Prelude.{Option, Some, None}
 
 abbrev pub both : Val → Val → Val
@@ -52,22 +52,22 @@ boxed R L Z LZ g d drops =
     record { row = R; laws = L; al = record { row = Z; laws = LZ; g = g; d = d; drops = drops } }
 
 module _ (R Z : RattleType) (L : Laws Z) (g : Ghosts Z.Denot) where
-  abbrev pub Loose : RattleType
-  Loose = loose.the_row R Z g
+  abbrev pub RawBox : RattleType
+  RawBox = raw.the_row R Z g
 
   abbrev al : Al
   al = record { row = Z; laws = L; g = g; d = impl [] tnil dnil; drops = impl [] tnil dnil }
 
-  pub loose_good : (b o : ℕ) (h : Val) → Good (layout Z) h → T (has_ty (layout Z) h && true) × WT (both (vptr b o) h)
-  loose_good b o h fits = (and_tt (has_ty (layout Z) h) fits.0, (tt, (fits.1, tt)))
+  pub raw_good : (b o : ℕ) (h : Val) → Good (layout Z) h → T (has_ty (layout Z) h && true) × WT (both (vptr b o) h)
+  raw_good b o h fits = (and_tt (has_ty (layout Z) h) fits.0, (tt, (fits.1, tt)))
 
   module _ {M : Type 1} {𝓤 : Ura M} {𝓛 : Logic 𝓤} {K : Type 0} {Γ : List (Item 𝓤)} {G : Goal 𝓤 𝓛.H} where
-    pub loose_out : K → (d : Loose.Denot) (vs : List Val)
+    pub raw_out : K → (d : RawBox.Denot) (vs : List Val)
         → ((b o : ℕ) (h : Val) → d.at ≡ block_ptr b o → vs ≡ both (vptr b o) h ∷ [] → Good (layout Z) h
         → Seq K 𝓛 (‵ (box_owns (g.dealloc_token d.alloc) R (block_ptr b o) d.value) ∷ ‵ (Z.own_val d.alloc (h ∷ []))
         ∷ Γ) G)
-        → Seq K 𝓛 (‵ (Loose.own_val d vs) ∷ Γ) G
-    loose_out t d vs k =
+        → Seq K 𝓛 (‵ (RawBox.own_val d vs) ∷ Γ) G
+    raw_out t d vs k =
         fsplit t $ fpick t (λ vss. fsplit t $ feq_l t (λ ev. fsplit t $ feq_l t
         (λ ep. fsplit t $ handle_tells al t d.alloc vss.1.0
         (λ h ea fits. move t (1 ∷ []) $ drop t $ move t (1 ∷ []) $
@@ -78,7 +78,7 @@ module _ (R Z : RattleType) (L : Laws Z) (g : Ghosts Z.Denot) where
         (λ (ps : List Val). vs ≡ vstruct (of_list (ps ++ (vss.1.0 ++ []))) ∷ []) ep ev))) fits)))))
 
     pub loose_in : K → (b o : ℕ) (h : Val) (a : Z.Denot) (x : R.Denot)
-        → Step K 𝓛 (‵ (Loose.own_val (record {
+        → Step K 𝓛 (‵ (RawBox.own_val (record {
           at = block_ptr b o;
           alloc = a;
           value =
@@ -88,7 +88,7 @@ module _ (R Z : RattleType) (L : Laws Z) (g : Ghosts Z.Denot) where
     loose_in t b o h a x = step (λ s. let v : Val = both (vptr b o) h in
         nothing t $ move t (2 ∷ 0 ∷ []) $ fjoin t $ feq_i t (List Val) (vptr b o ∷ []) (vptr b o ∷ []) refl $ fjoin t $
         feq_i t (List Val) (v ∷ []) (v ∷ []) refl $ fjoin t $
-        fpack t (Valss (RawPtr ∷ Z ∷ [])) (within (shape (loose.the_type R Z g)) (block_ptr b o, (a, tt)) (v ∷ []))
+        fpack t (Valss (RawPtr ∷ Z ∷ [])) (within (shape (raw.the_type R Z g)) (block_ptr b o, (a, tt)) (v ∷ []))
         (vptr b o ∷ [], (h ∷ [], tt)) $ fjoin t $ s)
 
 -- the handle, in place of a generic box
@@ -98,8 +98,8 @@ HZ = heap.the_row
 abbrev pub HR : RattleType
 HR = held.the_row
 
-abbrev pub HLoose : RattleType
-HLoose = Loose HR HZ heap_laws.the_row_laws heap_impl.ghosts
+abbrev pub HRaw : RattleType
+HRaw = RawBox HR HZ heap_laws.the_row_laws heap_impl.ghosts
 
 abbrev pub hal : Al
 hal = al HR HZ heap_laws.the_row_laws heap_impl.ghosts
@@ -118,7 +118,7 @@ lal = record {
 }
 
 -- what lies at a handle's pointer may be freed, so the pointer may be compared with null
-tested : {M : Type 1} {𝓤 : Ura M} (𝓛 : Logic 𝓤) (a : Global) (p : Ptr) (x : Held)
+tested : {M : Type 1} {𝓤 : Ura M} (𝓛 : Logic 𝓤) (a : Global) (p : Ptr) (x : OpenHandle)
     → ent 𝓤 (sem 𝓛 (box_owns (heap_impl.ghosts.dealloc_token a) HR p x)) (guard 𝓤 (Testable p) (sem 𝓛 (box_owns
     (heap_impl.ghosts.dealloc_token a) HR p x)))
 tested {𝓤 = 𝓤} 𝓛 a p x = let B : SProp 𝓤 = sem 𝓛 (box_owns (heap_impl.ghosts.dealloc_token a) HR p x) in
@@ -126,7 +126,7 @@ tested {𝓤 = 𝓤} 𝓛 a p x = let B : SProp 𝓤 = sem 𝓛 (box_owns (heap_
     a (bare (lone HR.mir)) p))) (dealloc_token-Testable 𝓛 a (bare (lone HR.mir)) p)) (guard_i 𝓤 (Testable p) B)
 
 module _ {M : Type 1} {𝓤 : Ura M} {𝓛 : Logic 𝓤} {K : Type 0} {Γ : List (Item 𝓤)} {G : Goal 𝓤 𝓛.H} where
-  pub handle_out : K → (d : handle.the_row.Denot) (vs : List Val) (x : Held) → d.held ≡ Some x
+  pub handle_out : K → (d : handle.the_row.Denot) (vs : List Val) (x : OpenHandle) → d.held ≡ Some x
       → ((b o : ℕ) (h : Val) → d.at ≡ block_ptr b o → vs ≡ both (vptr b o) h ∷ [] → Good (layout HZ) h
       → Seq K 𝓛 (‵ (box_owns (heap_impl.ghosts.dealloc_token d.alloc) HR (block_ptr b o) x) ∷ ‵ (HZ.own_val d.alloc
       (h ∷ [])) ∷ Γ) G)
@@ -135,7 +135,7 @@ module _ {M : Type 1} {𝓤 : Ura M} {𝓛 : Logic 𝓤} {K : Type 0} {Γ : List
       fsplit t $ fpick t (λ vss. fsplit t $ feq_l t (λ ev. fsplit t $ feq_l t
       (λ ep. fsplit t $ handle_tells hal t d.alloc vss.1.0
       (λ h ea fits. move t (1 ∷ []) $ drop t $ move t (1 ∷ []) $
-      rewrite t 0 (λ (m : Option Held). ‵ (handle_owns d.alloc d.at m d.last)) is refl $
+      rewrite t 0 (λ (m : Option OpenHandle). ‵ (handle_owns d.alloc d.at m d.final_note)) is refl $
       in_a_block t d.at (λ p. box_owns (heap_impl.ghosts.dealloc_token d.alloc) HR p x) (fst∗ 𝓤 (never 𝓤) (sem 𝓛
       (heap_impl.ghosts.dealloc_token d.alloc (bare (lone HR.mir)) null_ptr))) (λ b o e. k b o h e
       (subst (λ (p : Ptr). vs ≡ vstruct (of_list (ptr_val p ∷ h ∷ [])) ∷ []) e
@@ -151,15 +151,15 @@ module _ {M : Type 1} {𝓤 : Ura M} {𝓛 : Logic 𝓤} {K : Type 0} {Γ : List
       fsplit t $ fpick t (λ vss. fsplit t $ feq_l t (λ ev. fsplit t $ feq_l t
       (λ ep. fsplit t $ handle_tells hal t d.alloc vss.1.0
       (λ h ea fits. move t (1 ∷ []) $ drop t $ move t (1 ∷ []) $
-      rewrite t 0 (λ (m : Option Held). ‵ (handle_owns d.alloc d.at m d.last)) is refl $ fpick t (λ null. drop t $ k h
+      rewrite t 0 (λ (m : Option OpenHandle). ‵ (handle_owns d.alloc d.at m d.final_note)) is refl $ fpick t (λ null. drop t $ k h
       (subst (λ (p : Ptr). vs ≡ vstruct (of_list (ptr_val p ∷ h ∷ [])) ∷ []) null
       (subst (λ (ws : List Val). vs ≡ vstruct (of_list (ptr_val d.at ∷ (ws ++ []))) ∷ []) ea (subst
       (λ (ps : List Val). vs ≡ vstruct (of_list (ps ++ (vss.1.0 ++ []))) ∷ []) ep ev))) fits)))))
 
-  handle_as : K → (d : handle.the_row.Denot) (vs : List Val) (m : Option Held) → d.held ≡ m
+  handle_as : K → (d : handle.the_row.Denot) (vs : List Val) (m : Option OpenHandle) → d.held ≡ m
       → ((h : Val) → d.held ≡ None → vs ≡ both (ptr_val null_ptr) h ∷ [] → Good (layout HZ) h
       → Seq K 𝓛 (‵ (HZ.own_val d.alloc (h ∷ [])) ∷ Γ) G)
-      → ((b o : ℕ) (h : Val) (x : Held) → d.held ≡ Some x → vs ≡ both (vptr b o) h ∷ [] → Good (layout HZ) h
+      → ((b o : ℕ) (h : Val) (x : OpenHandle) → d.held ≡ Some x → vs ≡ both (vptr b o) h ∷ [] → Good (layout HZ) h
       → Testable (block_ptr b o)
       → Seq K 𝓛 (‵ (box_owns (heap_impl.ghosts.dealloc_token d.alloc) HR (block_ptr b o) x) ∷ ‵ (HZ.own_val d.alloc (h ∷
       [])) ∷ Γ) G)
@@ -174,20 +174,20 @@ module _ {M : Type 1} {𝓤 : Ura M} {𝓛 : Logic 𝓤} {K : Type 0} {Γ : List
   pub handle_cases : K → (d : handle.the_row.Denot) (vs : List Val)
       → ((h : Val) → d.held ≡ None → vs ≡ both (ptr_val null_ptr) h ∷ [] → Good (layout HZ) h
       → Seq K 𝓛 (‵ (HZ.own_val d.alloc (h ∷ [])) ∷ Γ) G)
-      → ((b o : ℕ) (h : Val) (x : Held) → d.held ≡ Some x → vs ≡ both (vptr b o) h ∷ [] → Good (layout HZ) h
+      → ((b o : ℕ) (h : Val) (x : OpenHandle) → d.held ≡ Some x → vs ≡ both (vptr b o) h ∷ [] → Good (layout HZ) h
       → Testable (block_ptr b o)
       → Seq K 𝓛 (‵ (box_owns (heap_impl.ghosts.dealloc_token d.alloc) HR (block_ptr b o) x) ∷ ‵ (HZ.own_val d.alloc (h ∷
       [])) ∷ Γ) G)
       → Seq K 𝓛 (‵ (handle.the_row.own_val d vs) ∷ Γ) G
   handle_cases t d vs none one = handle_as t d vs d.held refl none one
 
-  pub handle_in : K → (b o : ℕ) (h : Val) (a : Global) (x : Held)
+  pub handle_in : K → (b o : ℕ) (h : Val) (a : Global) (x : OpenHandle)
       → Step K 𝓛 (‵ (handle.the_row.own_val (record {
         at = block_ptr b o;
         alloc = a;
         held =
             Some x;
-        last = None;
+        final_note = None;
       }) (both (vptr b o) h ∷ [])) ∷ Γ) G (‵ (box_owns (heap_impl.ghosts.dealloc_token a) HR (block_ptr b o)
       x) ∷ ‵ (HZ.own_val a (h ∷ [])) ∷ Γ) G
   handle_in t b o h a x = step (λ s. let v : Val = both (vptr b o) h in
@@ -202,7 +202,7 @@ module _ {M : Type 1} {𝓤 : Ura M} {𝓛 : Logic 𝓤} {K : Type 0} {Γ : List
         alloc = a;
         held =
             None;
-        last = None;
+        final_note = None;
       }) (both (ptr_val null_ptr) h ∷ [])) ∷ Γ) G (‵ (HZ.own_val a (h ∷ [])) ∷ Γ) G
   handle_none t h a = step (λ s. let v : Val = both (ptr_val null_ptr) h in
       nothing t $ fpack t (null_ptr ≡ null_ptr) (λ _. ftrue) refl $ nothing t $ move t (2 ∷ 0 ∷ []) $ fjoin t $ feq_i t
@@ -212,17 +212,17 @@ module _ {M : Type 1} {𝓤 : Ura M} {𝓛 : Logic 𝓤} {K : Type 0} {Γ : List
       (ptr_val null_ptr ∷ [], (h ∷ [], tt)) $ fjoin t $ s)
 
   -- a closed handle is null too, and keeps a note
-  pub handle_closed : K → (h : Val) (a : Global) (l : Last) (vs : List Val)
+  pub handle_closed : K → (h : Val) (a : Global) (l : FinalNote) (vs : List Val)
       → Step K 𝓛 (‵ (handle.the_row.own_val (record {
         at = null_ptr;
         alloc = a;
         held =
             None;
-        last = Some l;
+        final_note = Some l;
       }) (both (ptr_val null_ptr) h ∷ [])) ∷ Γ) G (‵ (HZ.own_val a (h ∷ [])) ∷ ‵ (LR.own_val l vs) ∷ Γ) G
   handle_closed t h a l vs = step (λ s. let v : Val = both (ptr_val null_ptr) h in
       move t (1 ∷ []) $ fpack t (List Val) (λ (values : List Val). LR.own_val l values) vs $
-      fpack t (null_ptr ≡ null_ptr) (λ _. last_owns (Some l)) refl $ nothing t $ move t (2 ∷ 0 ∷ []) $ fjoin t $ feq_i t
+      fpack t (null_ptr ≡ null_ptr) (λ _. final_note_owns (Some l)) refl $ nothing t $ move t (2 ∷ 0 ∷ []) $ fjoin t $ feq_i t
       (List Val) (ptr_val null_ptr ∷ []) (ptr_val null_ptr ∷ []) refl $ fjoin t $ feq_i t (List Val) (v ∷ []) (v ∷
       []) refl $ fjoin t $
       fpack t (Valss (RawPtr ∷ HZ ∷ [])) (within (shape handle.the_type) (null_ptr, (((tt, tt), tt), tt)) (v ∷ []))

@@ -7,16 +7,16 @@ use denote.RawPtr.{Ptr, null_ptr}
 use Rattle.std_alloc.specs.Box.Ownership.{box_owns}
 use Rattle.std_heap.specs.contracts.GlobalAllocator.TheImpl.{ghosts}
 use Rattle.std_heap.specs.declared.Global.{Global}
-use Rattle.fixed_pool_c.specs.contracts.held.Held.{the_row}
-use Rattle.fixed_pool_c.specs.contracts.held.Last as LastRow
-use Rattle.fixed_pool_c.specs.declared.held.Held.{Held}
-use Rattle.fixed_pool_c.specs.declared.held.Last.{Last}
+use Rattle.fixed_pool_c.specs.contracts.open_handle.OpenHandle.{the_row}
+use Rattle.fixed_pool_c.specs.contracts.open_handle.FinalNote as FinalNoteRow
+use Rattle.fixed_pool_c.specs.declared.open_handle.OpenHandle.{OpenHandle}
+use Rattle.fixed_pool_c.specs.declared.open_handle.FinalNote.{FinalNote}
 
 -- the note that a closed handle keeps
-abbrev pub last_owns : Option Last → Fml
-last_owns None = ftrue
-last_owns (Some last) = fex (List Val) (λ values. LastRow.the_row.own_val last values)
+abbrev pub final_note_owns : Option FinalNote → Fml
+final_note_owns None = ftrue
+final_note_owns (Some last) = fex (List Val) (λ values. FinalNoteRow.the_row.own_val last values)
 
-abbrev pub handle_owns : Global → Ptr → Option Held → Option Last → Fml
-handle_owns alloc at None last = fex (at ≡ null_ptr) (λ _. last_owns last)
+abbrev pub handle_owns : Global → Ptr → Option OpenHandle → Option FinalNote → Fml
+handle_owns alloc at None last = fex (at ≡ null_ptr) (λ _. final_note_owns last)
 handle_owns alloc at (Some held) last = box_owns (ghosts.dealloc_token alloc) the_row at held

@@ -3,5 +3,5 @@ pub mod Shows
 pub mod Answers
 pub mod Number
 pub mod Refusals
-pub mod RightOwns
+pub mod PermitOwns
 pub mod Places

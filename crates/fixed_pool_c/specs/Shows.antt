@@ -9,23 +9,23 @@ use Rattle.pool_parts.specs.declared.closures.ready.Keep.{Keep}
 use Rattle.fixed_pools.specs.declared.fixed_object_pool.FixedObjectPool.{FixedObjectPool}
 use Rattle.fixed_pools.specs.declared.fixed_reusable.FixedReusableOf.{FixedReusableOf}
 use Rattle.pool_parts.specs.declared.page.note.PageNote.{PageNote}
-use Rattle.fixed_pool_c.specs.declared.held.Hand.{Hand}
-use Rattle.fixed_pool_c.specs.declared.held.Last.{Last}
-use Rattle.fixed_pool_c.specs.declared.held.Hand.TheVariants.{Empty, Full}
+use Rattle.fixed_pool_c.specs.declared.open_handle.HandleState.{HandleState}
+use Rattle.fixed_pool_c.specs.declared.open_handle.FinalNote.{FinalNote}
+use Rattle.fixed_pool_c.specs.declared.open_handle.HandleState.TheVariants.{Empty, Full}
 
 -- a pool of places alone: its items have no value
 abbrev pub PlacePool : Type 0
 PlacePool = FixedObjectPool ⊤ (Copied ⊤ AnyValue) Keep AnyValue
 
 -- a place that is out
-abbrev pub OutPlace : Type 0
-OutPlace = FixedReusableOf ⊤ (Arc PlacePool Global) (Copied ⊤ AnyValue) Keep AnyValue
+abbrev pub PlaceInUse : Type 0
+PlaceInUse = FixedReusableOf ⊤ (Arc PlacePool Global) (Copied ⊤ AnyValue) Keep AnyValue
 
 -- the pool of a handle, whether it holds a place or not
-abbrev pub hand_pool : Hand → PlacePool
-hand_pool (Empty idle) = arc_value idle.pool
-hand_pool (Full out) = arc_value out.pool
+abbrev pub state_pool : HandleState → PlacePool
+state_pool (Empty idle) = arc_value idle.pool
+state_pool (Full out) = arc_value out.pool
 
 -- what a closed handle keeps that knew this at its end
-abbrev pub last_of : PageNote ⊤ → Last
-last_of note = record { note = record { value = note } }
+abbrev pub final_note_of : PageNote ⊤ → FinalNote
+final_note_of note = record { note = record { value = note } }

@@ -6,7 +6,7 @@ use crate::answer::{
     ALL_IN_USE, DONE, HAS_POOL, HOLDS_NONE, HOLDS_ONE, NO_MEMORY, NO_PLACES, NO_POOL,
 };
 use crate::handle::Handle;
-use crate::held::{Hand, Held, Idle};
+use crate::open_handle::{HandleState, Idle, OpenHandle};
 use std::alloc::Global;
 
 /// Makes a pool of `items` free places. Its first handle goes to `out`, which was empty. The
@@ -26,7 +26,7 @@ pub extern "C" fn kdr_handle_new(alloc: Global, items: usize, tag: usize, out: &
     if items == 0 {
         return NO_PLACES;
     }
-    let Some(held) = Held::first(alloc, items, tag) else {
+    let Some(held) = OpenHandle::first(alloc, items, tag) else {
         return NO_MEMORY;
     };
     out.put(held);
@@ -115,28 +115,28 @@ pub extern "C" fn kdr_pool_pull_near(
 
 /// Takes a place for a handle that was taken apart.
 #[inline(always)]
-fn pull_at(handle: &mut Handle, mut held: Box<Held>, page: usize, place: &mut usize) -> u32
+fn pull_at(handle: &mut Handle, mut held: Box<OpenHandle>, page: usize, place: &mut usize) -> u32
     requires { handle.old.held ≡ None }
     ensures { IsPullAnswer result (Some held.value) handle.new.held place.old place.new }
 {
-    match held.hand.take() {
+    match held.state.take() {
         None => {
             handle.put(held);
             NO_POOL
         }
-        Some(Hand::Full(out)) => {
-            handle.hold(held, Hand::Full(out));
+        Some(HandleState::Full(out)) => {
+            handle.hold(held, HandleState::Full(out));
             HOLDS_ONE
         }
-        Some(Hand::Empty(Idle { pool, note })) => match pool.pull_by_owner(page, note) {
+        Some(HandleState::Empty(Idle { pool, note })) => match pool.pull_by_owner(page, note) {
             Ok(out) => {
                 *place = out.number();
                 held.page = out.page_number();
-                handle.hold(held, Hand::Full(out));
+                handle.hold(held, HandleState::Full(out));
                 DONE
             }
             Err((pool, note)) => {
-                handle.hold(held, Hand::Empty(Idle { pool, note }));
+                handle.hold(held, HandleState::Empty(Idle { pool, note }));
                 ALL_IN_USE
             }
         },
@@ -155,18 +155,18 @@ pub extern "C" fn kdr_pool_return(alloc: Global, handle: &mut Handle) -> u32
     let Some(mut held) = handle.take(alloc) else {
         return NO_POOL;
     };
-    match held.hand.take() {
+    match held.state.take() {
         None => {
             handle.put(held);
             NO_POOL
         }
-        Some(Hand::Empty(idle)) => {
-            handle.hold(held, Hand::Empty(idle));
+        Some(HandleState::Empty(idle)) => {
+            handle.hold(held, HandleState::Empty(idle));
             HOLDS_NONE
         }
-        Some(Hand::Full(out)) => {
+        Some(HandleState::Full(out)) => {
             let (pool, note) = out.give_back_with_owner();
-            handle.hold(held, Hand::Empty(Idle { pool, note }));
+            handle.hold(held, HandleState::Empty(Idle { pool, note }));
             DONE
         }
     }
@@ -180,24 +180,24 @@ pub extern "C" fn kdr_pool_return(alloc: Global, handle: &mut Handle) -> u32
 /// `NO_POOL`.
 #[unsafe(no_mangle)]
 pub extern "C" fn kdr_pool_drop(alloc: Global, handle: &mut Handle) -> u32
-    ensures { IsDropAnswer result handle.old.held handle.new.held handle.new.last }
+    ensures { IsDropAnswer result handle.old.held handle.new.held handle.new.final_note }
 {
     let Some(held) = handle.take(alloc) else {
         return NO_POOL;
     };
-    let Held {
+    let OpenHandle {
         page: _page,
         tag: _tag,
         handles: _handles,
-        hand,
+        state,
     } = Box::into_inner(held);
-    match hand {
-        Some(Hand::Full(out)) => {
+    match state {
+        Some(HandleState::Full(out)) => {
             let note = out.give_back();
             handle.close(alloc, note);
             DONE
         }
-        Some(Hand::Empty(Idle { pool: _pool, note })) => {
+        Some(HandleState::Empty(Idle { pool: _pool, note })) => {
             handle.close(alloc, note);
             DONE
         }

@@ -1,12 +1,12 @@
 //! A handle as C has it.
 ghost use Rattle.std.specs.Prelude.{◌≡◌, Option, Some, None, MatchOption};
 ghost use Rattle.fixed_pool_c.specs.HandleOwns.{handle_owns};
-ghost use Rattle.fixed_pool_c.specs.Shows.{last_of};
-ghost use Rattle.fixed_pool_c.specs.declared.held.Held.{Held};
-ghost use Rattle.fixed_pool_c.specs.declared.held.Last.{Last};
+ghost use Rattle.fixed_pool_c.specs.Shows.{final_note_of};
+ghost use Rattle.fixed_pool_c.specs.declared.open_handle.OpenHandle.{OpenHandle};
+ghost use Rattle.fixed_pool_c.specs.declared.open_handle.FinalNote.{FinalNote};
 
-use crate::held::{Hand, Held, Last};
-use crate::loose::Loose;
+use crate::open_handle::{FinalNote, HandleState, OpenHandle};
+use crate::raw_box::RawBox;
 use fixed_pools::fixed_object_pool::PoolNote;
 use std::alloc::Global;
 use std::marker::Model;
@@ -20,12 +20,12 @@ use std::ptr::null_mut;
 pub struct Handle {
     at: *mut u8,
     alloc: Global,
-    pub ghost held: { Option Held },
-    pub ghost last: { Option Last },
+    pub ghost held: { Option OpenHandle },
+    pub ghost final_note: { Option FinalNote },
 }
 
 impl Model for Handle {
-    ghost also_owns = { λ handle. handle_owns handle.alloc handle.at handle.held handle.last };
+    ghost also_owns = { λ handle. handle_owns handle.alloc handle.at handle.held handle.final_note };
 }
 
 impl Handle {
@@ -39,35 +39,35 @@ impl Handle {
     }
 
     /// Makes a handle that is closed. It is empty, and keeps the note of its last operation.
-    fn closed(alloc: Global, last: Last) -> Handle
-        ensures { (result.held ≡ None) × (result.last ≡ Some last) }
+    fn closed(alloc: Global, last: FinalNote) -> Handle
+        ensures { (result.held ≡ None) × (result.final_note ≡ Some last) }
     {
-        let Last { note: _ } = last;
+        let FinalNote { note: _ } = last;
         Handle {
             at: null_mut(),
             alloc,
         }
     }
 
-    fn of(loose: Loose<Held, Global>) -> Handle
-        ensures { result.held ≡ Some loose.value }
+    fn of(raw: RawBox<OpenHandle, Global>) -> Handle
+        ensures { result.held ≡ Some raw.value }
     {
-        let Loose { at, alloc } = loose;
+        let RawBox { at, alloc } = raw;
         Handle {
             at: at as *mut u8,
             alloc,
         }
     }
 
-    fn into_loose(self) -> Option<Loose<Held, Global>>
-        ensures { MatchOption result (self.held ≡ None) (λ loose. self.held ≡ Some loose.value) }
+    fn into_raw(self) -> Option<RawBox<OpenHandle, Global>>
+        ensures { MatchOption result (self.held ≡ None) (λ raw. self.held ≡ Some raw.value) }
     {
         let Handle { at, alloc } = self;
         if at.is_null() {
             None
         } else {
-            Some(Loose {
-                at: at as *mut Held,
+            Some(RawBox {
+                at: at as *mut OpenHandle,
                 alloc,
             })
         }
@@ -75,13 +75,13 @@ impl Handle {
 
     /// Takes out what an open handle has, which is empty from then on.
     #[inline(always)]
-    pub(crate) fn take(&mut self, alloc: Global) -> Option<Box<Held>>
+    pub(crate) fn take(&mut self, alloc: Global) -> Option<Box<OpenHandle>>
         ensures taken { MatchOption result (self.old.held ≡ None)
             (λ held. self.old.held ≡ Some held.value) }
         ensures empty { self.new.held ≡ None }
     {
-        match replace(self, Handle::empty(alloc)).into_loose() {
-            Some(loose) => Some(loose.into_box()),
+        match replace(self, Handle::empty(alloc)).into_raw() {
+            Some(raw) => Some(raw.into_box()),
             None => None,
         }
     }
@@ -91,12 +91,12 @@ impl Handle {
     pub(crate) fn close(&mut self, alloc: Global, note: PoolNote<()>)
         requires { self.old.held ≡ None }
         ensures empty { self.new.held ≡ None }
-        ensures last { self.new.last ≡ Some (last_of note) }
+        ensures final_note { self.new.final_note ≡ Some (final_note_of note) }
     {
-        let last = Last {
+        let last = FinalNote {
             note: ManuallyDrop::new(note),
         };
-        match replace(self, Handle::closed(alloc, last)).into_loose() {
+        match replace(self, Handle::closed(alloc, last)).into_raw() {
             None => {}
             Some(_) => unreachable!(),
         }
@@ -104,25 +104,25 @@ impl Handle {
 
     /// Opens the handle, which is empty.
     #[inline(always)]
-    pub(crate) fn put(&mut self, held: Box<Held>)
+    pub(crate) fn put(&mut self, held: Box<OpenHandle>)
         requires { self.old.held ≡ None }
         ensures { self.new.held ≡ Some held.value }
     {
-        match replace(self, Handle::of(Loose::of(held))).into_loose() {
+        match replace(self, Handle::of(RawBox::of(held))).into_raw() {
             None => {}
             Some(_) => unreachable!(),
         }
     }
 
-    /// Opens the handle, which is empty, and puts this into its hand, which is empty too.
+    /// Opens the handle, which is empty, and gives it this state.
     #[inline(always)]
-    pub(crate) fn hold(&mut self, mut held: Box<Held>, hand: Hand)
+    pub(crate) fn hold(&mut self, mut held: Box<OpenHandle>, state: HandleState)
         requires closed { self.old.held ≡ None }
-        requires empty { held.value.hand ≡ None }
-        ensures { (later : Held) × (self.new.held ≡ Some later) × (later.tag ≡ held.value.tag)
-            × (later.hand ≡ Some hand) }
+        requires empty { held.value.state ≡ None }
+        ensures { (later : OpenHandle) × (self.new.held ≡ Some later) × (later.tag ≡ held.value.tag)
+            × (later.state ≡ Some state) }
     {
-        match replace(&mut held.hand, Some(hand)) {
+        match replace(&mut held.state, Some(state)) {
             None => {}
             Some(_) => unreachable!(),
         }

@@ -8,8 +8,8 @@
 pub mod answer;
 mod exports;
 mod handle;
-mod held;
-mod loose;
 mod open;
+mod open_handle;
 mod place;
 mod places;
+mod raw_box;

@@ -1,13 +1,13 @@
 //! How handles are made, and what an open one shows of its pool.
 ghost use Rattle.std.specs.Prelude.{◌≡◌, ◌≤◌, ◌⊎◌, Some, None, MatchOption, IfSome, IfOk, IfErr};
 ghost use Rattle.std.specs.Arc.{arc_value};
-ghost use Rattle.fixed_pool_c.specs.Answers.{OpensOf, OpensNew, Shares, hand_items};
-ghost use Rattle.fixed_pool_c.specs.Shows.{hand_pool};
+ghost use Rattle.fixed_pool_c.specs.Answers.{OpensOf, OpensNew, Shares, state_items};
+ghost use Rattle.fixed_pool_c.specs.Shows.{state_pool};
 ghost use Rattle.fixed_pool_c.specs.declared.answer.TheConstants.{NO_POOL, NO_MEMORY};
-ghost use Rattle.fixed_pool_c.specs.declared.held.Hand.{Hand as HandShown};
+ghost use Rattle.fixed_pool_c.specs.declared.open_handle.HandleState.{HandleState as StateShown};
 
 use crate::answer::{NO_MEMORY, NO_POOL};
-use crate::held::{Hand, Held, Idle, PlacePool};
+use crate::open_handle::{HandleState, Idle, OpenHandle, PlacePool};
 use fixed_pools::closures::{Copied, Keep};
 use fixed_pools::page::PAGE_ITEMS;
 use std::alloc::Global;
@@ -19,25 +19,25 @@ use std::sync::atomic::Ordering::SeqCst;
 /// of their own.
 const PAGES_APART: usize = 17;
 
-impl Hand {
+impl HandleState {
     /// Returns the pool's owner, whether a place is held or not.
     fn pool(&self) -> &Arc<PlacePool>
-        ensures { arc_value result.now ≡ hand_pool self.now }
+        ensures { arc_value result.now ≡ state_pool self.now }
     {
         match self {
-            Hand::Empty(idle) => &idle.pool,
-            Hand::Full(out) => out.owner(),
+            HandleState::Empty(idle) => &idle.pool,
+            HandleState::Full(out) => out.owner(),
         }
     }
 }
 
-impl Held {
+impl OpenHandle {
     /// Makes the first handle of a new pool of so many free places, which has this tag.
     ///
     /// # Errors
     ///
     /// `None` if memory is refused.
-    pub(crate) fn first(alloc: Global, items: usize, tag: usize) -> Option<Box<Held>>
+    pub(crate) fn first(alloc: Global, items: usize, tag: usize) -> Option<Box<OpenHandle>>
         requires { 1 ≤ items }
         ensures { IfSome result (λ held. OpensNew items tag held.value) }
     {
@@ -50,7 +50,8 @@ impl Held {
         let Ok(handles) = Arc::new(alloc, AtomicUsize::new(0)) else {
             return None;
         };
-        match Held::open(alloc, pool, tag, handles) {
+        // The match is for the prover, which finds no proof of the call alone.
+        match OpenHandle::open(alloc, pool, tag, handles) {
             Some(held) => Some(held),
             None => None,
         }
@@ -61,10 +62,10 @@ impl Held {
     /// # Errors
     ///
     /// The answer for C.
-    pub(crate) fn share(&self, alloc: Global) -> Result<Box<Held>, u32>
+    pub(crate) fn share(&self, alloc: Global) -> Result<Box<OpenHandle>, u32>
         ensures shares { IfOk result (λ other. Shares self.now other.value) }
         ensures refused { IfErr result
-            (λ answer. ((answer ≡ NO_POOL) × (self.now.hand ≡ None)) ⊎ (answer ≡ NO_MEMORY)) }
+            (λ answer. ((answer ≡ NO_POOL) × (self.now.state ≡ None)) ⊎ (answer ≡ NO_MEMORY)) }
     {
         let Some(pool) = self.pool() else {
             return Err(NO_POOL);
@@ -75,7 +76,7 @@ impl Held {
         let Ok(handles) = Arc::try_clone(&self.handles) else {
             return Err(NO_MEMORY);
         };
-        match Held::open(alloc, pool, self.tag, handles) {
+        match OpenHandle::open(alloc, pool, self.tag, handles) {
             Some(other) => Ok(other),
             None => Err(NO_MEMORY),
         }
@@ -83,7 +84,7 @@ impl Held {
 
     /// Returns how many places the pool has.
     pub(crate) fn items(&self) -> usize
-        ensures { result ≡ hand_items self.now.hand }
+        ensures { result ≡ state_items self.now.state }
     {
         match self.pool() {
             Some(pool) => pool.items(),
@@ -94,12 +95,12 @@ impl Held {
     /// Returns the pool's owner.
     #[inline(always)]
     pub(crate) fn pool(&self) -> Option<&Arc<PlacePool>>
-        ensures { MatchOption result (self.now.hand ≡ None) (λ pool. (hand : HandShown)
-            × (self.now.hand ≡ Some hand) × (arc_value pool.now ≡ hand_pool hand)) }
+        ensures { MatchOption result (self.now.state ≡ None) (λ pool. (state : StateShown)
+            × (self.now.state ≡ Some state) × (arc_value pool.now ≡ state_pool state)) }
     {
-        match &self.hand {
+        match &self.state {
             None => None,
-            Some(hand) => Some(hand.pool()),
+            Some(state) => Some(state.pool()),
         }
     }
 
@@ -109,19 +110,19 @@ impl Held {
         pool: Arc<PlacePool>,
         tag: usize,
         handles: Arc<AtomicUsize>,
-    ) -> Option<Box<Held>>
+    ) -> Option<Box<OpenHandle>>
         ensures { IfSome result (λ held. OpensOf (arc_value pool) tag held.value) }
     {
         let page = start_page(handles.fetch_add(1, SeqCst), pool.items());
         let note = pool.note();
-        let hand = Some(Hand::Empty(Idle { pool, note }));
+        let state = Some(HandleState::Empty(Idle { pool, note }));
         match Box::new(
             alloc,
-            Held {
+            OpenHandle {
                 page,
                 tag,
                 handles,
-                hand,
+                state,
             },
         ) {
             Ok(held) => Some(held),

@@ -1,57 +1,56 @@
-//! A place by itself, as C has it: a number and a tag, and the right to that place of its pool as a
+//! A place by itself, as C has it: a number and a tag, and the permit for that place of its pool as a
 //! ghost.
 ghost use Rattle.std.specs.Prelude.{◌≡◌, ◌≢◌, ◌<◌, ◌≤◌, ◌+◌, ◌^◌, ⊤, Option, Some, None, IfSome, IfOk, IfErr};
 ghost use Rattle.std.proofs.Props.{props};
 ghost use Rattle.pool_parts.specs.declared.page.holding.Holding.{Holding as HoldingShown};
 ghost use Rattle.fixed_pool_c.specs.Number.{BearsNumber};
-ghost use Rattle.fixed_pool_c.specs.RightOwns.{right_owns};
-ghost use Rattle.fixed_pool_c.specs.Shows.{last_of};
-ghost use Rattle.fixed_pool_c.specs.declared.held.Last.{Last};
+ghost use Rattle.fixed_pool_c.specs.PermitOwns.{permit_owns};
+ghost use Rattle.fixed_pool_c.specs.Shows.{final_note_of};
+ghost use Rattle.fixed_pool_c.specs.declared.open_handle.FinalNote.{FinalNote};
 
 use crate::answer::{HOLDS_NONE, NO_SUCH_PLACE, OTHER_POOL};
-use crate::held::Last;
+use crate::open_handle::FinalNote;
 use atomic_table::Badge;
 use fixed_pools::fixed_object_pool::PoolNote;
-use pool_parts::page::holding::Holding;
-use pool_parts::page::user_view::{UserSeat, UserView};
+use pool_parts::page::inside::{Holding, UserSeat, UserView};
 use std::marker::Model;
 use std::mem::{ManuallyDrop, replace};
 
-/// The right to a place of a pool, or none: then it keeps the note of its last operation. It has
+/// The permit for a place of a pool, or none: then it keeps the note of its last operation. It has
 /// no bytes.
 #[derive(Drop)]
 #[repr(C)]
-pub struct Right {
+pub struct Permit {
     pub ghost held: { Option (HoldingShown ⊤) },
-    pub ghost last: { Option Last },
+    pub ghost final_note: { Option FinalNote },
 }
 
-impl Model for Right {
-    ghost also_owns = { λ right. right_owns right.held right.last };
+impl Model for Permit {
+    ghost also_owns = { λ permit. permit_owns permit.held permit.final_note };
 }
 
-impl Right {
-    /// Makes the right to no place.
-    fn none() -> Right
+impl Permit {
+    /// Makes the permit for no place.
+    fn none() -> Permit
         ensures { result.held ≡ None }
     {
-        Right {}
+        Permit {}
     }
 
-    /// Makes the right of this holder.
-    fn of(holding: ManuallyDrop<Holding<()>>) -> Right
+    /// Makes the permit of this holder.
+    fn of(holding: ManuallyDrop<Holding<()>>) -> Permit
         ensures { result.held ≡ Some holding.value }
     {
         let _holding = holding;
-        Right {}
+        Permit {}
     }
 
-    /// Makes the right to no place, which keeps the note.
-    fn noting(last: Last) -> Right
-        ensures { (result.held ≡ None) × (result.last ≡ Some last) }
+    /// Makes the permit for no place, which keeps the note.
+    fn noting(last: FinalNote) -> Permit
+        ensures { (result.held ≡ None) × (result.final_note ≡ Some last) }
     {
-        let Last { note: _ } = last;
-        Right {}
+        let FinalNote { note: _ } = last;
+        Permit {}
     }
 
     /// Returns the seat of the holder. Its bytes, which are none, are those of a blank badge.
@@ -59,14 +58,14 @@ impl Right {
         requires { (holding : HoldingShown ⊤) × (self.held ≡ Some holding) }
         ensures { IfSome self.held (λ holding. result ≡ holding.seat) }
     {
-        let Right {} = self;
+        let Permit {} = self;
         blank.into_seat()
     }
 }
 
-/// A place of a pool, and the right to it, or an empty place, and no right. It may go to another
+/// A place of a pool, and the permit for it, or an empty place, and no permit. It may go to another
 /// thread, as its bytes. All bytes of an empty place are 0. One that C made up has bytes, and no
-/// right.
+/// permit.
 ///
 /// It is `Drop`, unlike a handle, since it has nothing to close. A place that is let go stays out.
 #[derive(Drop)]
@@ -76,8 +75,8 @@ pub struct Place {
     pub after: usize,
     /// The tag of the place's pool, or 0 if the place is empty.
     pub tag: usize,
-    pub right: Right,
-    pub ghost told: { BearsNumber right.held after } by { Prim.hlevel props },
+    pub permit: Permit,
+    pub ghost numbered: { BearsNumber permit.held after } by { Prim.hlevel props },
 }
 
 impl Place {
@@ -85,12 +84,12 @@ impl Place {
 
     /// Makes an empty place.
     fn empty() -> Place
-        ensures { (result.right.held ≡ None) × (result.after ≡ 0) }
+        ensures { (result.permit.held ≡ None) × (result.after ≡ 0) }
     {
         Place {
             after: 0,
             tag: 0,
-            right: Right::none(),
+            permit: Permit::none(),
         }
     }
 
@@ -99,7 +98,7 @@ impl Place {
     pub(crate) fn hold(&mut self, holding: Holding<()>, tag: usize)
         requires in_pool { holding.number < holding.seat.table_id.slots }
         requires fits { holding.number + 1 < 2 ^ 64 }
-        ensures held { self.new.right.held ≡ Some holding }
+        ensures held { self.new.permit.held ≡ Some holding }
         ensures number { self.new.after ≡ holding.number + 1 }
         ensures tag { self.new.tag ≡ tag }
     {
@@ -107,7 +106,7 @@ impl Place {
         *self = Place {
             after,
             tag,
-            right: Right::of(ManuallyDrop::new(holding)),
+            permit: Permit::of(ManuallyDrop::new(holding)),
         };
     }
 
@@ -120,8 +119,8 @@ impl Place {
     #[inline(always)]
     pub(crate) fn take(&mut self, tag: usize, items: usize) -> Result<Holding<()>, u32>
         requires { self.old.tag ≡ tag → self.old.after ≢ 0 → self.old.after ≤ items
-            → (holding : HoldingShown ⊤) × (self.old.right.held ≡ Some holding) }
-        ensures taken { IfOk result (λ holding. self.old.right.held ≡ Some holding) }
+            → (holding : HoldingShown ⊤) × (self.old.permit.held ≡ Some holding) }
+        ensures taken { IfOk result (λ holding. self.old.permit.held ≡ Some holding) }
         ensures tag { IfOk result (λ _. self.old.tag ≡ tag) }
         ensures in_pool { IfOk result (λ _. self.old.after ≤ items) }
         ensures number { IfOk result (λ holding. self.old.after ≡ holding.number + 1) }
@@ -140,10 +139,10 @@ impl Place {
         let Place {
             after,
             tag: _,
-            right,
+            permit,
         } = replace(self, Place::empty());
         Ok(Holding {
-            seat: right.into_seat(Badge::blank()),
+            seat: permit.into_seat(Badge::blank()),
             number: after - 1,
         })
     }
@@ -151,19 +150,19 @@ impl Place {
     /// Leaves the place empty, with this note.
     #[inline(always)]
     pub(crate) fn keep(&mut self, note: PoolNote<()>)
-        ensures held { self.new.right.held ≡ None }
+        ensures held { self.new.permit.held ≡ None }
         ensures number { self.new.after ≡ 0 }
-        ensures last { self.new.right.last ≡ Some (last_of note) }
+        ensures final_note { self.new.permit.final_note ≡ Some (final_note_of note) }
     {
-        let last = Last {
+        let last = FinalNote {
             note: ManuallyDrop::new(note),
         };
         *self = Place {
             after: 0,
             tag: 0,
-            right: Right::noting(last),
+            permit: Permit::noting(last),
         };
     }
 }
 
-unsafe impl Send for Right {}
+unsafe impl Send for Permit {}

@@ -4,7 +4,7 @@ ghost use Rattle.fixed_pool_c.specs.Places.{IsPlacePullAnswer, IsPlaceReturnAnsw
 
 use crate::answer::{ALL_IN_USE, DONE, HOLDS_ONE, NO_POOL};
 use crate::handle::Handle;
-use crate::held::Held;
+use crate::open_handle::OpenHandle;
 use crate::place::Place;
 use std::alloc::Global;
 
@@ -52,7 +52,7 @@ pub extern "C" fn kdr_place_return(alloc: Global, handle: &mut Handle, place: &m
     answer
 }
 
-impl Held {
+impl OpenHandle {
     /// Takes a place from the handle's pool.
     #[inline(always)]
     fn pull_place(&self, page: usize, place: &mut Place) -> u32

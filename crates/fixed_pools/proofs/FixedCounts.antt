@@ -11,7 +11,8 @@ use Rattle.pool_parts.specs.Ledger.{History, value_at, returns_among, WasOutBetw
 use Rattle.pool_parts.specs.PageRule.{User, GoesOn, IsOutNow, Counts, IsSound, MissesAll, TakesOne}
 use Rattle.pool_parts.proofs.Ledger.{goes_on_further, still_out, out_longer}
 use Rattle.pool_parts.proofs.Returns.{one_more, grows, grows_within, stays_out}
-use Rattle.fixed_pools.specs.FixedCount.{is_beside, ReadsOn, Tallies, PassesOver}
+use Rattle.atomic_table.specs.Seated.{TableId}
+use Rattle.fixed_pools.specs.FixedCount.{is_beside, ReadsOn, Tallies, PassesOver, PassesAll}
 use Rattle.fixed_pools.proofs.PoolWords.{Splits, inside, before, behind, same_beside}
 
 module _ {T : Type 0} where
@@ -151,7 +152,7 @@ module _ {T : Type 0} where
   }
 
   -- before it had read anything
-  pub reads_none : (known : User T) → known.0.gone ≡ false → IsSound known.0 → ReadsOn known known
+  pub reads_none : (known : User T) → known.0.retired ≡ false → IsSound known.0 → ReadsOn known known
   reads_none known here sound = record {
     holds_same = refl;
     carries_same = refl;
@@ -322,4 +323,14 @@ module _ {T : Type 0} where
     holds = taken.holds;
     carries = taken.carries ∙ ap (λ l. (id, None) ∷ l) read.carries_same;
     goes_on = goes_on_further (Pull three.0.user id value ∷ []) one.0 two.0 three.0 read.goes_on taken.goes_on;
+    each_returned = taken.each_returned;
+  }
+
+  -- the first word was tried, and then the others were passed over
+  pub passes_all : (pool : TableId) (start sum : ℕ) (old one last : User T) → pool.slots ≤ 32 * pool.words
+      → MissesAll (32 * start) (32 * start + 32) old one → PassesOver (is_beside 0 pool.words start) sum one last
+      → PassesAll pool start sum old last
+  passes_all pool start sum old one last covered own others = record {
+    missed = missed_pass start pool.words pool.slots sum old one last covered own others;
+    counted = tallies_since (is_beside 0 pool.words start) sum old.0 one.0 last.0 own.goes_on others.tallies;
   }

@@ -1,7 +1,8 @@
 -- What a call knows that passes over a pool's words again and again.
 use Rattle.std.proofs.Common.{◌≡◌, ℕ, ◌+◌, ◌-◌, ◌*◌, ◌/◌, ◌%◌, ◌^◌, ◌<◌, ◌≤◌, Bool, true, nat_lt, ◌==◌, []}
-use Rattle.std.proofs.Common.{◌∷◌, ◌++◌, Some, None, sym, ap, ◌∙◌, subst, arith, inl, inr, lt-ltb, eq-eqb}
+use Rattle.std.proofs.Common.{◌∷◌, ◌++◌, Option, Some, None, sym, ap, ◌∙◌, subst, arith, inl, inr, lt-ltb, eq-eqb}
 use Rattle.std.proofs.Common.{le_trans, mul-add, mul-le-mul_left}
+use Rattle.atomic_table.specs.declared.shared.Seat.{Seat}
 use Rattle.std.proofs.lemmas.Bool.{cases_lt}
 use native.Mathlib.Decide.{ℕ_discrete}
 use mathlib.Core.Logic.{dite}
@@ -14,7 +15,7 @@ use Rattle.pool_parts.specs.PageRule.{User, GoesOn, IsOutNow, Counts, MissesAll,
 use Rattle.pool_parts.proofs.Ledger.{goes_on_further, still_out}
 use Rattle.pool_parts.proofs.Returns.{stays_out}
 use Rattle.fixed_pools.specs.FixedPool.{returns_between, IsFullSince}
-use Rattle.fixed_pools.specs.FixedCount.{is_beside, ReadsOn, Tallies}
+use Rattle.fixed_pools.specs.FixedCount.{is_beside, GoesOver, ReadsOn, Tallies}
 use Rattle.fixed_pools.proofs.PoolWords.{inside, with_first}
 use Rattle.fixed_pools.proofs.FixedCounts.{grown, grown_by, grown_within, out_still, adds_up, out_kept}
 use Rattle.fixed_pools.proofs.FixedCounts.{reads_further, missed_reads, loaded_reads, takes_later}
@@ -300,3 +301,19 @@ module _ {T : Type 0} where
       let goes = (passed_reads start words slots sum round first now passed).goes_on in
       let returns = returned_between words round [] first.0 now.0 goes by_now in
       no_more_words words (round + 1) (returns_between first.0.operations now.0.operations + 2) (omega (arith, returns))
+
+  -- a user that has read the first word again goes over all words once more
+  pub goes_again : (words so_far most : ℕ) (first now two three : Seat (Option T) (UserView T))
+      → GoesOver so_far 1 first now → two.table_id ≡ now.table_id → two.me.0.loads ≡ now.me.0.loads + 1
+      → two.me.0.tries ≡ now.me.0.tries → GoesOver words 1 two three → so_far + words ≤ most
+      → GoesOver most 1 first three
+  goes_again words so_far most first now two three before same loads tries pass within =
+      let loads_before = before.loads in
+      let tries_before = before.tries in
+      let more_loads = pass.loads in
+      let more_tries = pass.tries in
+      record {
+        same_pool = pass.same_pool ∙ same ∙ before.same_pool;
+        loads = omega arith;
+        tries = omega arith;
+      }

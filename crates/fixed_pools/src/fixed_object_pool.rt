@@ -17,15 +17,14 @@ use pool_parts::PullError;
 use pool_parts::clean::{AnyValue, Clean};
 use pool_parts::closures::{Init, Reset};
 use pool_parts::made_or_reset::MadeOrReset;
-use pool_parts::page::holding::Holding;
 use pool_parts::page::{PageNote, PullPass, Witness};
 use std::alloc::Global;
 use std::fmt::{self, Debug, Formatter, Write};
 use std::sync::Arc;
 
+mod apart;
 mod at;
 mod busy_seen;
-mod full;
 pub mod items;
 pub mod order;
 mod pass;
@@ -82,9 +81,8 @@ impl<T: Drop, I: Init<T, K>, R: Reset<T, K>, K: Clean<T>> Drop for FixedObjectPo
 }
 
 impl<T: Drop, I: Init<T, K>, R: Reset<T, K>, K: Clean<T>> FixedObjectPool<T, I, R, K> {
-    ghost use Rattle.fixed_pools.specs.FixedPool.{Pulls, IsFullNote, returns_since, IsWithin, fixed_view};
-    ghost use Rattle.pool_parts.specs.Page.{view_of, IsGivenBack, HoldsSame, held_item, IsNoteOf, HasLearned};
-    ghost use Rattle.pool_parts.specs.Slot.{IsAllOut};
+    ghost use Rattle.fixed_pools.specs.FixedPool.{IsBusy, IsFullNote, Pulls, fixed_view, returns_since};
+    ghost use Rattle.pool_parts.specs.Page.{view_of, IsNoteOf, HasLearned};
     ghost use Rattle.pool_parts.specs.Item.{IsFilled, new_user};
     ghost use Rattle.pool_parts.specs.Answers.{Refuses};
 
@@ -144,11 +142,8 @@ impl<T: Drop, I: Init<T, K>, R: Reset<T, K>, K: Clean<T>> FixedObjectPool<T, I, 
     pub fn pull(&self) -> Result<FixedReusable<'_, T, I, R, K>, PullError>
         ensures pool { IfOk result (λ item. item.pool.now ≡ self.now) }
         ensures pulled { IfOk result (λ item.
-            Pulls K.meets I.answers R.leaves self.now
-            (new_user (fixed_view self.now).opening item.item.holder) item.item) }
-        ensures brief { IfOk result (λ item.
-            IsWithin ((fixed_view self.now).pages * (returns_since item.known + 1)) 0 0
-            item.known) }
+            Pulls K.meets I.answers R.leaves self.now (returns_since item.known + 1)
+            (new_user (fixed_view self.now).opening item.item.holder) item.item item.known) }
         ensures refused { IfErr result (λ error. error ≡ Limit) }
     {
         match self.items.pull_in_order(self.items.hinted(), None) {
@@ -157,9 +152,8 @@ impl<T: Drop, I: Init<T, K>, R: Reset<T, K>, K: Clean<T>> FixedObjectPool<T, I, 
         }
     }
 
-    /// Pulls a free item as `pull` does, but begins at this page, counted round and round. If the
-    /// page has no free item, it goes on at the hinted page, then at those after that one, then
-    /// from page 0 on.
+    /// Pulls a free item, beginning at this page, counted round and round. If the page has no free
+    /// item, it goes on at the hinted page, then at those after that one, then from page 0 on.
     ///
     /// Threads that keep to pages of their own share no word of items: as long as the page has a
     /// free item, the pull neither reads nor sets the hint. A return to a page that was full reads
@@ -178,11 +172,8 @@ impl<T: Drop, I: Init<T, K>, R: Reset<T, K>, K: Clean<T>> FixedObjectPool<T, I, 
     pub fn pull_near(&self, page: usize) -> Result<FixedReusable<'_, T, I, R, K>, PullError>
         ensures pool { IfOk result (λ item. item.pool.now ≡ self.now) }
         ensures pulled { IfOk result (λ item.
-            Pulls K.meets I.answers R.leaves self.now
-            (new_user (fixed_view self.now).opening item.item.holder) item.item) }
-        ensures brief { IfOk result (λ item.
-            IsWithin ((fixed_view self.now).pages * (returns_since item.known + 1)) 0 0
-            item.known) }
+            Pulls K.meets I.answers R.leaves self.now (returns_since item.known + 1)
+            (new_user (fixed_view self.now).opening item.item.holder) item.item item.known) }
         ensures refused { IfErr result (λ error. error ≡ Limit) }
     {
         let start = self.items.page_round(page);
@@ -207,29 +198,24 @@ impl<T: Drop, I: Init<T, K>, R: Reset<T, K>, K: Clean<T>> FixedObjectPool<T, I, 
         Near::new(self, self.items.next_own_page())
     }
 
-    /// Pulls as `pull` does, by one pass, and shows what it found if it took no item. It is
-    /// wait-free, as `pull` says.
+    /// Pulls a free item in one pass, and shows what it found if it took none. It is wait-free, as
+    /// `pull` says.
     ///
     /// # Errors
     ///
     /// The evidence that each item was out during this call.
     pub fn try_pull<'s, 'p>(&'s self, pass: &'p PullPass) -> FixedPulled<'s, 'p, T, I, R, K>
         ensures pool { IfOk result (λ item. item.pool.now ≡ self.now) }
-        ensures pulled { IfOk result (λ item.
-            Pulls K.meets I.answers R.leaves self.now
-            (new_user (fixed_view self.now).opening item.item.holder) item.item) }
-        ensures brief { IfOk result (λ item. IsWithin (fixed_view self.now).pages 0 0 item.known) }
-        ensures busy { IfErr result (λ busy. IsAllOut (fixed_view self.now).identity.slots
-            (fixed_view self.now).identity
-            (new_user (fixed_view self.now).opening busy.known.user) busy) }
-        ensures busy_brief { IfErr result (λ busy.
-            IsWithin (fixed_view self.now).pages 0 0 busy.known) }
+        ensures pulled { IfOk result (λ item. Pulls K.meets I.answers R.leaves self.now 1
+            (new_user (fixed_view self.now).opening item.item.holder) item.item item.known) }
+        ensures busy { IfErr result (λ busy. IsBusy (fixed_view self.now).identity
+            (new_user (fixed_view self.now).opening busy.known.user) busy.page busy.known) }
     {
         Ok(FixedReusable::new(self, self.items.try_pull(pass)?))
     }
 
-    /// Pulls as `try_pull` does, by a user that knows something of the pool. The pull comes after
-    /// all that the note knew.
+    /// Pulls a free item in one pass, by a user that knows something of the pool. The pull comes
+    /// after all that the note knew.
     ///
     /// # Errors
     ///
@@ -241,17 +227,10 @@ impl<T: Drop, I: Init<T, K>, R: Reset<T, K>, K: Clean<T>> FixedObjectPool<T, I, 
     ) -> FixedPulled<'s, 'p, T, I, R, K>
         requires { note.seat.table_id ≡ (fixed_view self.now).identity }
         ensures pool { IfOk result (λ item. item.pool.now ≡ self.now) }
-        ensures pulled { IfOk result (λ item.
-            Pulls K.meets I.answers R.leaves self.now (view_of note.seat) item.item) }
-        ensures brief { IfOk result (λ item.
-            IsWithin (fixed_view self.now).pages (view_of note.seat).loads (view_of note.seat).tries
-            item.known) }
-        ensures busy { IfErr result
-            (IsAllOut (fixed_view self.now).identity.slots (fixed_view self.now).identity
-            (view_of note.seat)) }
-        ensures busy_brief { IfErr result (λ busy.
-            IsWithin (fixed_view self.now).pages (view_of note.seat).loads (view_of note.seat).tries
-            busy.known) }
+        ensures pulled { IfOk result (λ item. Pulls K.meets I.answers R.leaves self.now 1
+            (view_of note.seat) item.item item.known) }
+        ensures busy { IfErr result (λ busy.
+            IsBusy (fixed_view self.now).identity (view_of note.seat) busy.page busy.known) }
     {
         let pulled = self.items.pull_from(pass, note)?;
         Ok(FixedReusable::new(self, pulled))
@@ -274,31 +253,8 @@ impl<T: Drop, I: Init<T, K>, R: Reset<T, K>, K: Clean<T>> FixedObjectPool<T, I, 
         self.items.shared.tell(note, other);
     }
 
-    /// Returns what the holder of an item knows of this pool, for another user. It costs one load.
-    pub fn witness(&self, holding: &mut Holding<T>) -> Witness<T>
-        requires { holding.old.seat.table_id ≡ (fixed_view self.now).identity }
-        ensures pool { result.seat.table_id ≡ holding.old.seat.table_id }
-        ensures history { (view_of result.seat).operations ≡ (view_of holding.old.seat).operations }
-        ensures same_pool { holding.new.seat.table_id ≡ holding.old.seat.table_id }
-        ensures same_view { view_of holding.new.seat ≡ view_of holding.old.seat }
-        ensures same_number { holding.new.number ≡ holding.old.number }
-    {
-        holding.witness(&self.items.shared)
-    }
-
-    /// Ensures that two holders of items of this pool have two items. It costs seven loads.
-    pub fn are_two(&self, one: &mut Holding<T>, other: &mut Holding<T>)
-        requires one { one.old.seat.table_id ≡ (fixed_view self.now).identity }
-        requires other { other.old.seat.table_id ≡ (fixed_view self.now).identity }
-        ensures differ { one.old.number ≢ other.old.number }
-        ensures same_one { HoldsSame one.old one.new }
-        ensures same_other { HoldsSame other.old other.new }
-    {
-        self.items.shared.are_two(one, other);
-    }
-
-    /// Pulls as `pull` does. The reusable owns the pool with others: it becomes one more owner
-    /// before an item is taken.
+    /// Pulls a free item, with an owner of the pool in place of a borrow: the reusable becomes one
+    /// more owner before an item is taken.
     ///
     /// # Errors
     ///
@@ -306,10 +262,9 @@ impl<T: Drop, I: Init<T, K>, R: Reset<T, K>, K: Clean<T>> FixedObjectPool<T, I, 
     pub fn pull_owned(self: &Arc<Self>) -> Result<FixedOwnedReusable<T, I, R, K>, PullError>
         ensures pool { IfOk result (λ item. arc_value item.pool ≡ arc_value self.now) }
         ensures pulled { IfOk result (λ item.
-            Pulls K.meets I.answers R.leaves (arc_value self.now)
-            (new_user (fixed_view (arc_value self.now)).opening item.item.holder) item.item) }
-        ensures brief { IfOk result (λ item. IsWithin ((fixed_view (arc_value self.now)).pages
-            * (returns_since item.known + 1)) 0 0 item.known) }
+            Pulls K.meets I.answers R.leaves (arc_value self.now) (returns_since item.known + 1)
+            (new_user (fixed_view (arc_value self.now)).opening item.item.holder) item.item
+            item.known) }
         ensures refused { IfErr result (λ error. (error ≡ Memory) ⊎ (error ≡ Limit)) }
     {
         let owner = Arc::try_clone(self)?;
@@ -319,9 +274,9 @@ impl<T: Drop, I: Init<T, K>, R: Reset<T, K>, K: Clean<T>> FixedObjectPool<T, I, 
         Ok(FixedOwnedReusable::new(owner, pulled))
     }
 
-    /// Pulls as `pull_near` does, by an owner of the pool that has a note of it. The reusable takes
-    /// over both, so no owner is counted, and the pull comes after all that the note knew.
-    /// `give_back_with_owner` hands both out again.
+    /// Pulls a free item, beginning at this page, by an owner of the pool that has a note of it.
+    /// The reusable takes over both, so no owner is counted, and the pull comes after all that the
+    /// note knew. `give_back_with_owner` hands both out again.
     ///
     /// # Errors
     ///
@@ -336,63 +291,16 @@ impl<T: Drop, I: Init<T, K>, R: Reset<T, K>, K: Clean<T>> FixedObjectPool<T, I, 
         requires { note.seat.table_id ≡ (fixed_view (arc_value self)).identity }
         ensures pool { IfOk result (λ item. arc_value item.pool ≡ arc_value self) }
         ensures pulled { IfOk result (λ item.
-            Pulls K.meets I.answers R.leaves (arc_value self) (view_of note.seat) item.item) }
-        ensures brief { IfOk result (λ item.
-            IsWithin ((fixed_view (arc_value self)).pages * (returns_since item.known
-            + 1)) (view_of note.seat).loads (view_of note.seat).tries item.known) }
+            Pulls K.meets I.answers R.leaves (arc_value self) (returns_since item.known + 1)
+            (view_of note.seat) item.item item.known) }
         ensures same_owner { IfErr result (λ kept. arc_value kept.0 ≡ arc_value self) }
         ensures full { IfErr result (λ kept.
             IsFullNote (fixed_view (arc_value self)).identity (view_of note.seat) kept.1) }
-        ensures full_brief { IfErr result (λ kept.
-            IsWithin ((fixed_view (arc_value self)).pages * (returns_since (view_of kept.1.seat)
-            + 2)) (view_of note.seat).loads (view_of note.seat).tries (view_of kept.1.seat)) }
     {
         let start = self.items.page_round(page);
         match self.items.pull_onward(start, note) {
             Ok(pulled) => Ok(FixedOwnedReusable::new(self, pulled)),
             Err(note) => Err((self, note)),
-        }
-    }
-
-    /// Pulls as `pull_near` does, and returns the item apart from the pool: what its holder has,
-    /// and its value. Only [`FixedObjectPool::give`] returns it to the pool.
-    ///
-    /// # Errors
-    ///
-    /// The note of a user that found the pool full at one moment of this call (or that so many
-    /// returns came within it as `pull` says).
-    #[inline(always)]
-    pub fn pull_apart(&self, page: usize) -> Result<(Holding<T>, T), PoolNote<T>>
-        ensures pulled { IfOk result (λ apart.
-            Pulls K.meets I.answers R.leaves self.now
-            (new_user (fixed_view self.now).opening (view_of apart.0.seat).user)
-            (held_item apart.0 apart.1)) }
-        ensures brief { IfOk result (λ apart.
-            IsWithin ((fixed_view self.now).pages * (returns_since (view_of apart.0.seat) + 1)) 0 0
-            (view_of apart.0.seat)) }
-        ensures full { IfErr result (λ note. IsFullNote (fixed_view self.now).identity
-            (new_user (fixed_view self.now).opening (view_of note.seat).user) note) }
-        ensures full_brief { IfErr result (λ note.
-            IsWithin ((fixed_view self.now).pages * (returns_since (view_of note.seat) + 2)) 0 0
-            (view_of note.seat)) }
-    {
-        let start = self.items.page_round(page);
-        let pulled = self.items.pull_in_order(start, Some(Order::Hinted))?;
-        Ok((pulled.holding, pulled.value))
-    }
-
-    /// Resets the value of an item that was pulled apart and returns it. The note knows the pool's
-    /// history up to this return.
-    pub fn give(&self, holding: Holding<T>, value: T) -> PoolNote<T>
-        requires of_pool { holding.seat.table_id ≡ (fixed_view self.now).identity }
-        requires in_pool { holding.number < (fixed_view self.now).items }
-        ensures { IsGivenBack (R.leaves (fixed_view self.now).reset) (held_item holding value)
-            result }
-    {
-        let mut left = value;
-        self.reset.reset(&mut left);
-        PageNote {
-            seat: self.items.give(holding, left),
         }
     }
 }

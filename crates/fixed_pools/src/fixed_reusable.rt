@@ -8,7 +8,7 @@ use crate::fixed_object_pool::items::PulledItem;
 use crate::fixed_object_pool::{FixedObjectPool, PoolNote};
 use pool_parts::clean::{AnyValue, Clean};
 use pool_parts::closures::{Init, Reset};
-use pool_parts::page::holding::Holding;
+use pool_parts::page::inside::Holding;
 use pool_parts::page::{PAGE_ITEMS, PageId, Witness};
 use std::fmt::{self, Debug, Formatter, Write};
 use std::marker::Model;
@@ -114,6 +114,7 @@ pub type FixedReusable<'p, T, I, R, K = AnyValue> = FixedReusableOf<
 >;
 
 impl<T: Drop, P: SharedFixedPool<T>> FixedReusableOf<T, P> {
+    ghost use Rattle.fixed_pools.specs.FixedPool.{IsSame};
     ghost use Rattle.pool_parts.specs.Page.{IsGivenBack, held_item, view_of};
     ghost use Rattle.pool_parts.specs.declared.page.word.TheConstants.{PAGE_ITEMS};
 
@@ -160,8 +161,7 @@ impl<T: Drop, P: SharedFixedPool<T>> FixedReusableOf<T, P> {
     pub fn witness(&mut self) -> Witness<T>
         ensures pool { result.seat.table_id ≡ self.old.item.page }
         ensures history { (view_of result.seat).operations ≡ self.old.item.history }
-        ensures same_item { self.new.item ≡ self.old.item }
-        ensures same_pool { self.new.pool ≡ self.old.pool }
+        ensures same { IsSame self.old self.new }
     {
         self.pool.pool().witness(&mut self.holding)
     }
@@ -172,10 +172,8 @@ impl<T: Drop, P: SharedFixedPool<T>> FixedReusableOf<T, P> {
     pub fn differs_from<Q: SharedFixedPool<T>>(&mut self, other: &mut FixedReusableOf<T, Q>)
         requires pool { other.old.item.page ≡ self.old.item.page }
         ensures differ { self.old.item.id ≢ other.old.item.id }
-        ensures same_item { self.new.item ≡ self.old.item }
-        ensures same_pool { self.new.pool ≡ self.old.pool }
-        ensures same_other { other.new.item ≡ other.old.item }
-        ensures same_others_pool { other.new.pool ≡ other.old.pool }
+        ensures same { IsSame self.old self.new }
+        ensures same_other { IsSame other.old other.new }
     {
         let pool = self.pool.pool();
         pool.are_two(&mut self.holding, &mut other.holding);
@@ -201,8 +199,7 @@ impl<T: Drop, P: SharedFixedPool<T>> FixedReusableOf<T, P> {
         &self.pool
     }
 
-    /// Returns the value as `give_back` does, and hands out the borrow or the owner of the pool
-    /// too.
+    /// Resets the value and returns it, and hands out the borrow or the owner of the pool too.
     pub fn give_back_with_owner(self) -> (P, PoolNote<T>)
         ensures owner { result.0 ≡ self.pool }
         ensures given_back { IsGivenBack (P.Reset.leaves (P.shown self.pool).reset) self.item result.1 }

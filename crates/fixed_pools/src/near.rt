@@ -1,5 +1,5 @@
 //! A place at which one user of a fixed pool begins its pulls.
-ghost use Rattle.std.specs.Prelude.{◌≡◌, ◌*◌, IfOk, IfErr, ◌+◌};
+ghost use Rattle.std.specs.Prelude.{◌≡◌, ◌+◌, IfOk, IfErr};
 ghost use Rattle.pool_parts.specs.declared.pull_error.PullError.TheVariants.{Limit};
 
 use crate::fixed_object_pool::FixedObjectPool;
@@ -28,7 +28,7 @@ pub struct Near<'p, T, I: Init<T, K>, R: Reset<T, K>, K: Clean<T> = AnyValue> {
 }
 
 impl<'p, T: Drop, I: Init<T, K>, R: Reset<T, K>, K: Clean<T>> Near<'p, T, I, R, K> {
-    ghost use Rattle.fixed_pools.specs.FixedPool.{fixed_view, Pulls, returns_since, IsWithin};
+    ghost use Rattle.fixed_pools.specs.FixedPool.{Pulls, fixed_view, returns_since};
     ghost use Rattle.pool_parts.specs.Item.{new_user};
 
     pub(crate) fn new(pool: &'p FixedObjectPool<T, I, R, K>, page: usize) -> Near<'p, T, I, R, K>
@@ -45,11 +45,9 @@ impl<'p, T: Drop, I: Init<T, K>, R: Reset<T, K>, K: Clean<T>> Near<'p, T, I, R, 
     pub fn pull(&self) -> Result<FixedReusable<'p, T, I, R, K>, PullError>
         ensures pool { IfOk result (λ item. item.pool.now ≡ self.now.pool.now) }
         ensures pulled { IfOk result (λ item.
-            Pulls K.meets I.answers R.leaves self.now.pool.now
-            (new_user (fixed_view self.now.pool.now).opening item.item.holder) item.item) }
-        ensures brief { IfOk result (λ item.
-            IsWithin ((fixed_view self.now.pool.now).pages * (returns_since item.known
-            + 1)) 0 0 item.known) }
+            Pulls K.meets I.answers R.leaves self.now.pool.now (returns_since item.known + 1)
+            (new_user (fixed_view self.now.pool.now).opening item.item.holder) item.item
+            item.known) }
         ensures refused { IfErr result (λ error. error ≡ Limit) }
     {
         self.pool.pull_near(self.page)

@@ -1,11 +1,12 @@
 -- For the proofs: what holds of a lock between any two steps, and what each kind of step tells. The word is 0 where the
 -- lock is free and 1 where it is taken, and there is one place for the value.
-use Rattle.std.specs.Prelude.{◌≡◌, ◌≢◌, ℕ, ◌<◌, List, [], ◌∷◌, length, slice_index, Option, Some, true, false}
+use Rattle.std.specs.Prelude.{◌≡◌, ◌≢◌, ℕ, ◌<◌, List, [], ◌∷◌, length, slice_index, Option, Some, None, true, false}
 use mathlib.Core.Option.{some}
 use lib.ListN.{get_elem?}
+use Rattle.atomic_table.specs.Seated.{TableId}
 use Rattle.atomic_table.specs.Table.{State, Me}
 use Rattle.history_lock.specs.declared.rule.Visitor.{Visitor}
-use Rattle.history_lock.specs.History.{IsPrefixOf}
+use Rattle.history_lock.specs.History.{IsPrefixOf, Known}
 
 -- what a visitor knows and holds
 abbrev pub Guest : Type 0 → Type 0 → Type 0
@@ -19,6 +20,16 @@ module _ {E : Type 0} where
   -- one visitor, which doesn't hold the value
   abbrev pub IsPassing : List (Visitor E) → Type 0
   IsPassing views = (v : Visitor E) × (views ≡ v ∷ []) × (v.holds ≡ false)
+
+  -- one visitor, which doesn't hold the value, or none
+  abbrev pub IsPassingAtMost : List (Visitor E) → Type 0
+  IsPassingAtMost [] = Unit {0}
+  IsPassingAtMost (v ∷ others) = (others ≡ []) × (v.holds ≡ false)
+
+  -- what a visitor of this table knows, if there is one
+  abbrev pub known_by : TableId → List (Visitor E) → Option (Known E)
+  known_by table [] = None
+  known_by table (v ∷ _) = Some (record { table = table; history = v.history })
 
   -- what a visitor knows
   abbrev pub history_of : List (Visitor E) → List E

@@ -1,5 +1,6 @@
 //! What somebody knows of a lock who doesn't hold it.
 ghost use Rattle.std.specs.Prelude.{◌≡◌, [], ◌∷◌, false};
+ghost use Rattle.history_lock.specs.LockRule.{IsPassing, history_of};
 
 use crate::rule::Visitor;
 use atomic_table::{Badge, Seat};
@@ -41,8 +42,25 @@ impl<E> Seen<E> {
         ensures history { result.me.0.history ≡ self.history }
         ensures passing { (result.me.0.holds ≡ false) × (result.me.1 ≡ []) }
     {
+        self.into_badge().into_seat()
+    }
+
+    /// Returns the badge of one visitor.
+    pub(crate) fn of_badge(badge: Badge<Visitor<E>>) -> Seen<E>
+        requires { IsPassing badge.views }
+        ensures { result ≡ record { table = badge.table_id; history = history_of badge.views } }
+    {
+        Seen { badge }
+    }
+
+    /// Returns the badge of the visitor that knows this.
+    pub(crate) fn into_badge(self) -> Badge<Visitor<E>>
+        ensures table { result.table_id ≡ self.table }
+        ensures history { history_of result.views ≡ self.history }
+        ensures passing { IsPassing result.views }
+    {
         let Seen { badge } = self;
-        badge.into_seat()
+        badge
     }
 }
 

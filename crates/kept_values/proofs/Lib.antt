@@ -1,1 +1,2 @@
 pub mod KeptPlaces
+pub mod RoomShared

@@ -1,16 +1,20 @@
 -- What a pool shows whose items are made one at a time, and its reusables; and what its answers show.
-use Rattle.std.specs.Prelude.{◌≡◌, ℕ, List, Option, Some, MatchOption, IfSome}
+use Rattle.std.specs.Prelude.{◌≡◌, ⊤, ℕ, List, Option, Some, MatchOption, IfSome}
 use Rattle.atomic_table.specs.Seated.{TableId}
 use Rattle.pool_parts.specs.Item.{Item, PulledView, IsPulled, new_user}
 use Rattle.pool_parts.specs.Answers.{IsMadeOrReset}
 use Rattle.pool_parts.specs.Page.{view_of, held_item, IsReturned}
 use Rattle.pool_parts.specs.declared.page.note.PageNote.{PageNote}
+use Rattle.pool_parts.specs.declared.pull_error.PullError.{PullError}
+use Rattle.pool_parts.specs.declared.pull_error.PullError.TheVariants as cause
 use Rattle.pool_parts.specs.Slot.{IsAllOut}
 use Rattle.fixed_pools.specs.FixedPool.{IsFullNote}
 use Rattle.fixed_pools.specs.declared.fixed_object_pool.items.PulledItem.{PulledItem}
 use Rattle.lazy_pools.specs.declared.lazy_object_pool.LazyObjectPool.{LazyObjectPool}
 use Rattle.lazy_pools.specs.declared.lazy_object_pool.lazy_refused.LazyRefused.{LazyRefused}
-use Rattle.lazy_pools.specs.declared.lazy_object_pool.lazy_refused.LazyRefused.TheVariants.{Busy, NotMade}
+use Rattle.lazy_pools.specs.declared.lazy_object_pool.lazy_refused.LazyRefused.TheVariants.{Busy, NotMade, Closed}
+use Rattle.lazy_pools.specs.declared.lazy_object_pool.lazy_refused.NoPlace.{NoPlace}
+use Rattle.lazy_pools.specs.declared.lazy_object_pool.lazy_refused.NoPlace.TheVariants as none
 use Rattle.lazy_pools.specs.declared.lazy_object_pool.lazy_refused.PullWithError.{PullWithError}
 use Rattle.lazy_pools.specs.declared.lazy_object_pool.lazy_refused.PullWithError.TheVariants as With
 
@@ -65,20 +69,37 @@ module _ {T I R : Type 0} where
         (held_item place.holding place.value)
     pub kept : IfSome place.value (λ value. meets value × IsMadeOrReset answers leaves value)
 
--- a pull of one pass gave no item: each was observed taken by it, or init may answer None
+-- a pull of one pass gave no item: each was observed taken by it, init may answer None, or the pool was closed
 abbrev pub RefusesOnePass : {T : Type 0} → TableId → List (Option (Option T)) → Type 0 → LazyRefused T → Type 0
 RefusesOnePass pool opening may_answer_none (Busy busy) =
     IsAllOut pool.slots pool (new_user opening busy.known.user) busy
 RefusesOnePass pool opening may_answer_none NotMade = may_answer_none
+RefusesOnePass pool opening may_answer_none Closed = ⊤
 
 -- a pull by a closure gave no item, only if it may lack memory or may find the pool full: it was so at one moment; or the
--- closure failed with this cause
+-- closure failed with this cause, or the pool was closed
 abbrev pub RefusesWith : {T I R E : Type 0} → LazyView T I R → (may_lack_memory may_be_full : Type 0) → (E → Type 0)
     → PullWithError T E → Type 0
 RefusesWith pool may_lack_memory may_be_full fails_with With.Memory = may_lack_memory
 RefusesWith pool may_lack_memory may_be_full fails_with (With.Limit full) =
     may_be_full × IsFullNote pool.identity (new_user pool.opening (view_of full.seat).user) full
 RefusesWith pool may_lack_memory may_be_full fails_with (With.Make cause) = fails_with cause
+RefusesWith pool may_lack_memory may_be_full fails_with With.Closed = ⊤
+
+-- a call took no place, only if it may find the pool full: it was so at one moment; or the pool was closed
+abbrev pub TakesNone : {T I R : Type 0} → LazyView T I R → (may_be_full : Type 0) → NoPlace T → Type 0
+TakesNone pool may_be_full (none.Full full) =
+    may_be_full × IsFullNote pool.identity (new_user pool.opening (view_of full.seat).user) full
+TakesNone pool may_be_full none.Closed = ⊤
+
+-- the cause for which a pull fails that took no place, and that of a pull by a closure
+abbrev pub cause_of : {T : Type 0} → NoPlace T → PullError
+cause_of (none.Full full) = cause.Limit
+cause_of none.Closed = cause.Closed
+
+abbrev pub cause_with : {T E : Type 0} → NoPlace T → PullWithError T E
+cause_with (none.Full full) = With.Limit full
+cause_with none.Closed = With.Closed
 
 -- an item was returned with exactly what its pool's reset left of its value, or without one if it rejected that value
 pub record IsBroughtBack {T : Type 0} (leaves : T → T → Type 0) (rejects : T → Type 0) (item : Item (Option T))

@@ -12,6 +12,9 @@
 //! Only the pulls that take a permission to wait do so. No return waits: it reads whether anybody
 //! waits, and wakes one.
 //!
+//! A pool may be closed: then pulls and those that wait for an item fail, and items are dropped as
+//! they are returned.
+//!
 //! Serving isn't fair: who waits longest needn't come first. An `init` or a `reset` that waits on
 //! its own pool can wait for ever.
 ghost use Rattle.std.specs.Prelude.{◌≡◌, ◌+◌, ◌*◌, ◌/◌, ◌<◌, ◌≤◌, ⊤, None, Some, IfOk, IfErr, IfSome};
@@ -23,11 +26,11 @@ use fixed_pools::fixed_object_pool::PoolNote;
 use fixed_pools::fixed_object_pool::items::{FixedItems, PulledItem};
 use fixed_pools::fixed_object_pool::order::Order;
 use kept_place::KeptPlace;
-use lazy_refused::LazyRefused;
+use lazy_refused::{LazyRefused, NoPlace};
 use pool_parts::PullError;
 use pool_parts::clean::{AnyValue, Clean};
 use pool_parts::closures::{Init, Reset};
-use pool_parts::page::holding::Holding;
+use pool_parts::page::inside::Holding;
 use pool_parts::page::{PageNote, PullPass, Witness};
 use std::alloc::Global;
 use std::fmt::{self, Debug, Formatter, Write};
@@ -36,6 +39,8 @@ use std::sync::atomic::AtomicUsize;
 use std::sync::atomic::Ordering::SeqCst;
 use waiters::Waiters;
 
+mod apart;
+mod closing;
 mod counts;
 pub mod kept_place;
 pub mod lazy_refused;
@@ -54,6 +59,7 @@ pub use crate::near::Near;
 ///     Ok(_item) => "an item",
 ///     Err(LazyRefused::Busy(_)) => "each item was seen in use",
 ///     Err(LazyRefused::NotMade) => "`init` returned `None`",
+///     Err(LazyRefused::Closed) => "the pool is closed",
 /// }
 /// ```
 pub type LazyPulled<'s, 'p, T, I, R, K = AnyValue> = Result<
@@ -99,11 +105,11 @@ impl<T: Drop, I: Init<T, K>, R: Reset<T, K>, K: Clean<T>> Drop for LazyObjectPoo
 }
 
 impl<T: Drop, I: Init<T, K>, R: Reset<T, K>, K: Clean<T>> LazyObjectPool<T, I, R, K> {
-    ghost use Rattle.pool_parts.specs.Answers.{IsMadeOrReset, Refuses};
+    ghost use Rattle.pool_parts.specs.Answers.{IsMadeOrReset, Refuses, RefusesOrClosed};
     ghost use Rattle.fixed_pools.specs.FixedPool.{returns_since, IsWithin};
     ghost use Rattle.pool_parts.specs.Page.{view_of, held_item, IsNoteOf, HasLearned, IsReturned};
     ghost use Rattle.pool_parts.specs.Item.{IsFilled, IsPulled, new_user};
-    ghost use Rattle.lazy_pools.specs.LazyPool.{IsBroughtBack, IsPulledPlace, Pulls, RefusesOnePass, lazy_view};
+    ghost use Rattle.lazy_pools.specs.LazyPool.{IsBroughtBack, IsPulledPlace, Pulls, RefusesOnePass, TakesNone, lazy_view};
 
     /// Creates a pool of `items` empty places. It makes no item. A place takes the room of a `T`
     /// and two words.
@@ -161,18 +167,17 @@ impl<T: Drop, I: Init<T, K>, R: Reset<T, K>, K: Clean<T>> LazyObjectPool<T, I, R
     /// - `Limit` if no item was free at one moment of the call (or 2^32 returns and more came
     ///   within it, which the counts of the words can't tell from none).
     /// - `Init` if `init` returned `None`. The place is free again, and empty.
+    /// - `Closed` if the pool was closed.
     pub fn pull(&self) -> Result<LazyReusable<'_, T, I, R, K>, PullError>
         ensures pool { IfOk result (λ item. item.pool.now ≡ self.now) }
         ensures pulled { IfOk result (λ item.
             Pulls K.meets I.answers R.leaves (lazy_view self.now) item.item item.value) }
         ensures brief { IfOk result (λ item.
             IsWithin ((lazy_view self.now).pages * (returns_since item.known + 1)) 0 0 item.known) }
-        ensures refused { IfErr result (Refuses ⊥ (I.answers (lazy_view self.now).init None) ⊤) }
+        ensures refused { IfErr result
+            (RefusesOrClosed ⊥ (I.answers (lazy_view self.now).init None) ⊤) }
     {
-        match self.places.pull() {
-            Ok(pulled) => self.reusable(self, pulled),
-            Err(_) => Err(PullError::Limit),
-        }
+        self.reusable(self, self.take()?)
     }
 
     /// Returns a place for one thread to begin its pulls at: each call names the next page, eight
@@ -190,12 +195,13 @@ impl<T: Drop, I: Init<T, K>, R: Reset<T, K>, K: Clean<T>> LazyObjectPool<T, I, R
         Near::new(self, self.places.next_own_page())
     }
 
-    /// Pulls a free item as `pull` does, by one pass over the pool's words.
+    /// Pulls a free item by one pass over the pool's words, and makes it if its place is empty.
     ///
     /// # Errors
     ///
     /// - `Busy` with the evidence that each item was in use at some moment of the call.
     /// - `NotMade` if `init` returned `None`. The place is free again, and empty.
+    /// - `Closed` if the pool was closed.
     pub fn try_pull<'s, 'p>(&'s self, pass: &'p PullPass) -> LazyPulled<'s, 'p, T, I, R, K>
         ensures pool { IfOk result (λ item. item.pool.now ≡ self.now) }
         ensures pulled { IfOk result (λ item.
@@ -205,6 +211,9 @@ impl<T: Drop, I: Init<T, K>, R: Reset<T, K>, K: Clean<T>> LazyObjectPool<T, I, R
             (RefusesOnePass (lazy_view self.now).identity (lazy_view self.now).opening
             (I.answers (lazy_view self.now).init None)) }
     {
+        if self.waiters.is_closed() {
+            return Err(LazyRefused::Closed);
+        }
         match self.places.try_pull(pass) {
             Ok(pulled) => match self.reusable(self, pulled) {
                 Ok(item) => Ok(item),
@@ -214,12 +223,13 @@ impl<T: Drop, I: Init<T, K>, R: Reset<T, K>, K: Clean<T>> LazyObjectPool<T, I, R
         }
     }
 
-    /// Pulls a free item as `pull` does. The reusable owns the pool with others, which are one more
-    /// before an item is taken.
+    /// Pulls a free item, and makes it if its place is empty. The reusable owns the pool with
+    /// others, which are one more before an item is taken.
     ///
     /// # Errors
     ///
-    /// As `pull`, and `Memory` if the pool can have no more owners.
+    /// - `Memory` if the pool can have no more owners.
+    /// - `Limit`, `Init` and `Closed` as `pull` says.
     pub fn pull_owned(self: &Arc<Self>) -> Result<LazyOwnedReusable<T, I, R, K>, PullError>
         ensures pool { IfOk result (λ item. arc_value item.pool ≡ arc_value self.now) }
         ensures pulled { IfOk result (λ item.
@@ -229,13 +239,10 @@ impl<T: Drop, I: Init<T, K>, R: Reset<T, K>, K: Clean<T>> LazyObjectPool<T, I, R
             IsWithin ((lazy_view (arc_value self.now)).pages * (returns_since item.known
             + 1)) 0 0 item.known) }
         ensures refused { IfErr result
-            (Refuses ⊤ (I.answers (lazy_view (arc_value self.now)).init None) ⊤) }
+            (RefusesOrClosed ⊤ (I.answers (lazy_view (arc_value self.now)).init None) ⊤) }
     {
         let owner = Arc::try_clone(self)?;
-        match self.places.pull() {
-            Ok(pulled) => self.reusable(owner, pulled),
-            Err(_) => Err(PullError::Limit),
-        }
+        self.reusable(owner, self.take()?)
     }
 
     /// Returns a note of this pool, which knows some prefix of its history.
@@ -252,6 +259,24 @@ impl<T: Drop, I: Init<T, K>, R: Reset<T, K>, K: Clean<T>> LazyObjectPool<T, I, R
         ensures { HasLearned note.old other note.new }
     {
         self.places.shared.tell(note, other);
+    }
+
+    /// Takes a free place, unless the pool is closed.
+    #[inline(always)]
+    pub(crate) fn take(&self) -> Result<PulledItem<Option<T>>, NoPlace<T>>
+        ensures pulled { IfOk result (IsPulledPlace K.meets I.answers R.leaves (lazy_view self.now)) }
+        ensures brief { IfOk result (λ pulled.
+            IsWithin ((lazy_view self.now).pages * (returns_since (view_of pulled.holding.seat)
+            + 1)) 0 0 (view_of pulled.holding.seat)) }
+        ensures none { IfErr result (TakesNone (lazy_view self.now) ⊤) }
+    {
+        if self.waiters.is_closed() {
+            return Err(NoPlace::Closed);
+        }
+        match self.places.pull() {
+            Ok(pulled) => Ok(pulled),
+            Err(full) => Err(NoPlace::Full(full)),
+        }
     }
 
     /// Returns the reusable of a place that was taken. It makes the value if the place is empty.
@@ -310,14 +335,14 @@ impl<T: Drop, I: Init<T, K>, R: Reset<T, K>, K: Clean<T>> LazyObjectPool<T, I, R
                 Ok(PulledItem { holding, value })
             }
             None => {
-                self.give_place(holding, None);
+                self.give_place(holding);
                 Err(PullError::Init)
             }
         }
     }
 
     /// Resets the value of an item, returns it, and wakes one that waits. The place is empty if the
-    /// reset rejects the value.
+    /// reset rejects the value. In a closed pool it is emptied then.
     pub(crate) fn give(&self, holding: Holding<Option<T>>, value: T) -> PoolNote<Option<T>>
         requires of_pool { holding.seat.table_id ≡ (lazy_view self.now).identity }
         requires in_pool { holding.number < (lazy_view self.now).items }
@@ -325,9 +350,27 @@ impl<T: Drop, I: Init<T, K>, R: Reset<T, K>, K: Clean<T>> LazyObjectPool<T, I, R
             (R.rejects (lazy_view self.now).reset) (held_item holding (Some value)) value result }
     {
         match self.reset.try_reset(value) {
-            Some(left) => self.give_place(holding, Some(left)),
+            Some(left) => self.give_kept(holding, left),
             None => self.give_empty(holding),
         }
+    }
+
+    /// Returns a place with a value that the pool keeps, and wakes one that waits. If the pool was
+    /// closed, it takes the place once more and drops what lies there: whoever closed the pool may
+    /// have passed by before.
+    pub(crate) fn give_kept(&self, holding: Holding<Option<T>>, value: T) -> PoolNote<Option<T>>
+        requires of_pool { holding.seat.table_id ≡ (lazy_view self.now).identity }
+        requires in_pool { holding.number < (lazy_view self.now).items }
+        requires meets { K.meets value }
+        requires kept { IsMadeOrReset I.answers R.leaves value }
+        ensures { IsReturned (held_item holding (Some value)) result }
+    {
+        let number = holding.number;
+        let seat = self.places.give(holding, Some(value));
+        if self.waiters.tell() {
+            self.clear_place(number);
+        }
+        PageNote { seat }
     }
 
     /// Returns the place of an item without its value, and wakes one that waits.
@@ -337,22 +380,16 @@ impl<T: Drop, I: Init<T, K>, R: Reset<T, K>, K: Clean<T>> LazyObjectPool<T, I, R
         ensures { IsReturned (held_item holding None) result }
     {
         self.existing.fetch_sub(1, SeqCst);
-        self.give_place(holding, None)
+        self.give_place(holding)
     }
 
-    /// Returns a place with what lies there, and wakes one that waits.
-    pub(crate) fn give_place(
-        &self,
-        holding: Holding<Option<T>>,
-        place: Option<T>,
-    ) -> PoolNote<Option<T>>
+    /// Returns a place that is empty, and wakes one that waits.
+    pub(crate) fn give_place(&self, holding: Holding<Option<T>>) -> PoolNote<Option<T>>
         requires of_pool { holding.seat.table_id ≡ (lazy_view self.now).identity }
         requires in_pool { holding.number < (lazy_view self.now).items }
-        requires kept { IfSome place (λ value.
-            K.meets value × IsMadeOrReset I.answers R.leaves value) }
-        ensures { IsReturned (held_item holding place) result }
+        ensures { IsReturned (held_item holding None) result }
     {
-        let seat = self.places.give(holding, place);
+        let seat = self.places.give(holding, None);
         self.waiters.tell();
         PageNote { seat }
     }

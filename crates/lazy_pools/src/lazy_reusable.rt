@@ -8,7 +8,7 @@ use fixed_pools::fixed_object_pool::PoolNote;
 use fixed_pools::fixed_object_pool::items::PulledItem;
 use pool_parts::clean::{AnyValue, Clean};
 use pool_parts::closures::{Init, Reset};
-use pool_parts::page::holding::Holding;
+use pool_parts::page::inside::Holding;
 use pool_parts::page::{PAGE_ITEMS, PageId, Witness};
 use std::fmt::{self, Debug, Formatter, Write};
 use std::marker::Model;

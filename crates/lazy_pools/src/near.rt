@@ -30,7 +30,7 @@ pub struct Near<'p, T, I: Init<T, K>, R: Reset<T, K>, K: Clean<T> = AnyValue> {
 }
 
 impl<'p, T: Drop, I: Init<T, K>, R: Reset<T, K>, K: Clean<T>> Near<'p, T, I, R, K> {
-    ghost use Rattle.pool_parts.specs.Answers.{Refuses};
+    ghost use Rattle.pool_parts.specs.Answers.{RefusesOrClosed};
     ghost use Rattle.fixed_pools.specs.FixedPool.{returns_since, IsWithin};
     ghost use Rattle.lazy_pools.specs.LazyPool.{Pulls, lazy_view};
 
@@ -40,12 +40,12 @@ impl<'p, T: Drop, I: Init<T, K>, R: Reset<T, K>, K: Clean<T>> Near<'p, T, I, R, 
         Near { pool, page }
     }
 
-    /// Pulls a free item as [`LazyObjectPool::pull`] does, but begins at the page of this place,
+    /// Pulls a free item, and makes it if its place is empty. It begins at the page of this place,
     /// and goes on at the hinted one.
     ///
     /// # Errors
     ///
-    /// As of [`LazyObjectPool::pull`].
+    /// `Limit`, `Init` and `Closed` as [`LazyObjectPool::pull`] says.
     pub fn pull(&self) -> Result<LazyReusable<'p, T, I, R, K>, PullError>
         ensures pool { IfOk result (λ item. item.pool.now ≡ self.now.pool.now) }
         ensures pulled { IfOk result (λ item.
@@ -54,9 +54,12 @@ impl<'p, T: Drop, I: Init<T, K>, R: Reset<T, K>, K: Clean<T>> Near<'p, T, I, R, 
             IsWithin ((lazy_view self.now.pool.now).pages * (returns_since item.known
             + 1)) 0 0 item.known) }
         ensures refused { IfErr result
-            (Refuses ⊥ (I.answers (lazy_view self.now.pool.now).init None) ⊤) }
+            (RefusesOrClosed ⊥ (I.answers (lazy_view self.now.pool.now).init None) ⊤) }
     {
         let pool = self.pool;
+        if pool.is_closed() {
+            return Err(PullError::Closed);
+        }
         let start = pool.places.page_round(self.page);
         match pool.places.pull_in_order(start, Some(Order::Hinted)) {
             Ok(pulled) => pool.reusable(pool, pulled),

@@ -5,6 +5,7 @@ use Rattle.std.specs.Borrow.{Lends, Fml, RattleType, MutBor}
 use Rattle.std.specs.Option.{option_map}
 use Rattle.pool_parts.specs.Answers.{IsMadeOrReset}
 use Rattle.pool_parts.specs.Item.{Item, IsPulled, IsFilled, new_user}
+use Rattle.pool_parts.specs.Ledger.{EachReturned}
 use Rattle.pool_parts.specs.declared.clean.Clean as Clean
 use Rattle.pool_parts.specs.declared.closures.Init as Init
 use Rattle.pool_parts.specs.declared.closures.Reset as Reset
@@ -50,6 +51,8 @@ module _ {T I R K : Type 0} where
     pub pulled : IsPulled item.page (new_user item.opening item.holder) item
     pub meets_condition : meets item.value
     pub made_or_reset : IsMadeOrReset answers leaves item.value
+    -- so was each value with which an item of the page was returned before
+    pub each_returned : EachReturned (λ value. meets value × IsMadeOrReset answers leaves value) item.history
 
 module _ (T I R K : RattleType) (init : Init.Ghosts I.Denot T.Denot K.Denot)
     (reset : Reset.Ghosts R.Denot T.Denot K.Denot) (clean : Clean.Ghosts K.Denot T.Denot) where

@@ -20,6 +20,10 @@ use std::fmt::{self, Debug, Formatter, Write};
 use std::marker::PhantomData;
 use std::sync::Arc;
 
+mod apart;
+
+pub use apart::LinearApart;
+
 /// Why [`LinearObjectPool::try_pull`] took no item: the pages up to the pool's limit were found
 /// full, of which it has the evidence of the last one, or no further page could be made.
 ///
@@ -134,7 +138,7 @@ impl<T: Drop, I: Init<T, K>, R: Reset<T, K>, K: Clean<T>> LinearObjectPool<T, I,
     ///
     /// # Errors
     ///
-    /// As `new`.
+    /// `Memory`, or `Init` at the first `None`. The items that were made are dropped.
     ///
     /// # Examples
     ///
@@ -224,7 +228,8 @@ impl<T: Drop, I: Init<T, K>, R: Reset<T, K>, K: Clean<T>> LinearObjectPool<T, I,
         }
     }
 
-    /// Pulls as `pull` does, and shows what it found if it took no item.
+    /// Pulls a free item, or returns what it found in place of one. It asks the pages in the order
+    /// in which `pull` asks them.
     ///
     /// # Errors
     ///
@@ -253,12 +258,15 @@ impl<T: Drop, I: Init<T, K>, R: Reset<T, K>, K: Clean<T>> LinearObjectPool<T, I,
         }
     }
 
-    /// Pulls as `try_pull` does, by a user that knows something of the first page. If its item is
-    /// of that page, the pull comes after all that the note knew.
+    /// Pulls a free item by a user that knows something of the first page, or returns what it found
+    /// in place of one. If the item is of the first page, the pull comes after all that the note
+    /// knew.
     ///
     /// # Errors
     ///
-    /// As `try_pull`.
+    /// - `Limit`, with the evidence that each item of the last page up to the limit was seen in use
+    ///   during this call.
+    /// - `Making`, with the reason why no further page could be made.
     pub fn try_pull_from<'s, 'p>(
         &'s self,
         pass: &'p PullPass,
@@ -291,12 +299,14 @@ impl<T: Drop, I: Init<T, K>, R: Reset<T, K>, K: Clean<T>> LinearObjectPool<T, I,
         }
     }
 
-    /// Pulls as `pull` does. The reusable owns the pool with others: it becomes one more owner
-    /// before an item is taken.
+    /// Pulls a free item, whose reusable owns the pool with others: it becomes one more owner
+    /// before an item is taken. It asks the pages in the order in which `pull` asks them.
     ///
     /// # Errors
     ///
-    /// As `pull`, and `Memory` if the pool can have no more owners.
+    /// - `Limit` if each item of as many pages as the limit allows was seen in use in this call.
+    /// - `Memory`, or `Init` at the first `None`, if it has to make a page. Then no page is linked.
+    /// - `Memory` too if the pool can have no more owners.
     pub fn pull_owned(self: &Arc<Self>) -> Result<LinearOwnedReusable<T, I, R, K>, PullError>
         ensures pool { IfOk result (λ item. item.pool ≡ arc_value self.now) }
         ensures pulled { IfOk result (λ item.
@@ -362,7 +372,7 @@ impl<T: Drop, I: Init<T, K>, R: Reset<T, K>, K: Clean<T>> LinearObjectPool<T, I,
     }
 
     /// Leaves a value as it is kept.
-    pub(crate) fn reset(&self, value: &mut T)
+    pub fn reset(&self, value: &mut T)
         ensures leaves { R.leaves (linear_view self.now).reset value.old value.new }
         ensures meets { K.meets value.new }
         ensures made_or_reset { IsMadeOrReset I.answers R.leaves value.new }

@@ -9,7 +9,7 @@ use page_chain::linear_page::PageNumber;
 use pool_parts::clean::{AnyValue, Clean};
 use pool_parts::closures::{Init, Reset};
 use pool_parts::made_or_reset::MadeOrReset;
-use pool_parts::page::holding::Holding;
+use pool_parts::page::inside::Holding;
 use pool_parts::page::{PageId, PageNote, PageSlot, Witness};
 use std::fmt::{self, Debug, Formatter, Write};
 use std::marker::Model;
@@ -64,6 +64,8 @@ impl<T: Drop, I: Init<T, K>, R: Reset<T, K>, K: Clean<T>> Model
 }
 
 impl<T: Drop, I: Init<T, K>, R: Reset<T, K>, K: Clean<T>> LinearOwnedReusable<T, I, R, K> {
+    ghost use Rattle.pool_parts.specs.Answers.{IsMadeOrReset};
+    ghost use Rattle.pool_parts.specs.Ledger.{EachReturned};
     ghost use Rattle.pool_parts.specs.Page.{IsGivenBack, IsNoteOf, HasLearned, view_of};
     ghost use Rattle.linear_pools.specs.LinearPool.{linear_view};
     ghost use Rattle.page_chain.specs.Walk.{IsWalkedTo};
@@ -131,7 +133,10 @@ impl<T: Drop, I: Init<T, K>, R: Reset<T, K>, K: Clean<T>> LinearOwnedReusable<T,
     /// this return.
     #[inline(always)]
     pub fn give_back(self) -> PageNote<T>
-        ensures { IsGivenBack (R.leaves (linear_view self.pool).reset) self.item result }
+        ensures given { IsGivenBack (R.leaves (linear_view self.pool).reset) self.item result }
+        ensures each_returned { EachReturned
+            (λ value. K.meets value × IsMadeOrReset I.answers R.leaves value)
+            (view_of result.seat).operations }
     {
         let LinearOwnedReusable {
             pool,

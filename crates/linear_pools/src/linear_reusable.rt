@@ -7,7 +7,7 @@ use page_chain::linear_page::PageNumber;
 use pool_parts::clean::{AnyValue, Clean};
 use pool_parts::closures::{Init, Reset};
 use pool_parts::made_or_reset::MadeOrReset;
-use pool_parts::page::holding::Holding;
+use pool_parts::page::inside::Holding;
 use pool_parts::page::{Page, PageId, PageNote, PageSlot, Returned, Witness};
 use std::fmt::{self, Debug, Formatter, Write};
 use std::marker::Model;
@@ -60,6 +60,9 @@ impl<'p, T: Drop, I: Init<T, K>, R: Reset<T, K>, K: Clean<T>> Model
 
 impl<'p, T: Drop, I: Init<T, K>, R: Reset<T, K>, K: Clean<T>> LinearReusable<'p, T, I, R, K> {
     ghost use Rattle.pool_parts.specs.Page.{IsGivenBack, IsNoteOf, HasLearned, page_identity, page_opening, view_of};
+    ghost use Rattle.page_chain.specs.Walk.{IsWalkedTo, page_of_item};
+    ghost use Rattle.pool_parts.specs.Answers.{IsMadeOrReset};
+    ghost use Rattle.pool_parts.specs.Ledger.{EachReturned};
     ghost use Rattle.linear_pools.specs.LinearPool.{linear_view};
 
     pub(crate) fn new(
@@ -112,6 +115,27 @@ impl<'p, T: Drop, I: Init<T, K>, R: Reset<T, K>, K: Clean<T>> LinearReusable<'p,
         self.page.are_two(&mut self.holding, &mut other.holding);
     }
 
+    /// Ensures that this item and another of the pool are of one page, if their pages have one
+    /// number. It makes no step on the page, and changes neither item.
+    pub fn same_page(&mut self, other: &mut LinearReusable<'_, T, I, R, K>)
+        requires pool { other.old.pool ≡ self.old.pool }
+        requires number { other.old.number.number ≡ self.old.number.number }
+        requires on_page { IsWalkedTo (linear_view self.old.pool).start self.old.number
+            (page_of_item self.old.item) }
+        requires other_on_page { IsWalkedTo (linear_view self.old.pool).start other.old.number
+            (page_of_item other.old.item) }
+        ensures page { other.old.item.page ≡ self.old.item.page }
+        ensures same { self.new ≡ self.old }
+        ensures same_other { other.new ≡ other.old }
+    {
+        self.pool.chain.are_of_one_page(
+            &mut self.number,
+            &self.holding,
+            &mut other.number,
+            &other.holding,
+        );
+    }
+
     /// Returns a note of the item's page, by a user that did nothing. It costs one load.
     ///
     /// It knows some prefix of the page's history; which one, no contract can say.
@@ -135,8 +159,11 @@ impl<'p, T: Drop, I: Init<T, K>, R: Reset<T, K>, K: Clean<T>> LinearReusable<'p,
     /// this return.
     #[inline]
     pub fn give_back(self) -> PageNote<T>
-        ensures { IsGivenBack (R.leaves (linear_view self.entry.pool).reset)
+        ensures given { IsGivenBack (R.leaves (linear_view self.entry.pool).reset)
             self.entry.item result }
+        ensures each_returned { EachReturned
+            (λ value. K.meets value × IsMadeOrReset I.answers R.leaves value)
+            (view_of result.seat).operations }
     {
         let LinearReusable {
             pool,

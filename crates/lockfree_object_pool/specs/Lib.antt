@@ -11,3 +11,5 @@ pub use Rattle.linear_pools.specs.LinearPool
 pub use Rattle.none_pools.specs.NonePool
 pub use Rattle.lazy_pools.specs.LazyPool
 pub use Rattle.stack_pools.specs.StackPool
+pub use Rattle.stack_pools.specs.StackHistory
+pub use Rattle.pool_workers.specs.Workers

@@ -53,8 +53,8 @@ impl<T, I: Fn() -> Option<T>> NoneObjectPool<T, I> {
         }
     }
 
-    /// Makes an item as `pull` does, for a pool in an `Arc`. An item needs no owner of the pool,
-    /// since it isn't returned.
+    /// Makes an item, for a pool in an `Arc`. An item needs no owner of the pool, since it isn't
+    /// returned.
     ///
     /// # Errors
     ///

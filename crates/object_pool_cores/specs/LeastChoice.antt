@@ -2,7 +2,7 @@
 -- only where no number is free, or a refusal in its place.
 use Rattle.std.specs.Prelude.{◌≡◌, ℕ, ◌+◌, ◌≤◌, Option, Some, None, List, All, Result, Ok, Err, ◌⊎◌}
 use Rattle.pool_parts.specs.declared.pull_error.PullError.{PullError}
-use Rattle.pool_parts.specs.declared.pull_error.PullError.TheVariants.{Memory, Init, Limit}
+use Rattle.pool_parts.specs.declared.pull_error.PullError.TheVariants.{Memory, Init, Limit, Closed}
 use Rattle.object_pool_cores.specs.declared.sequential.item.Item.{Item}
 use Rattle.object_pool_cores.specs.Item.{item_value, item_number}
 use Rattle.pool_world.specs.Pool.{Pool, Free, Out, IsSame, AllowsPages, with_place, IsGrowth, after_growth}
@@ -35,6 +35,7 @@ module _ {T : Type 0} (limit : Option ℕ) (answers : Option T → Type 0) where
   IsCause pool Limit = limit ≡ Some pool.pages
   IsCause pool Memory = AllowsPages limit (pool.pages + 1)
   IsCause pool Init = AllowsPages limit (pool.pages + 1) × answers None
+  IsCause pool Closed = ⊥
 
   -- a refusal comes only where no number is free, and changes nothing
   pub record IsRefused (old : Pool T) (cause : PullError) (new : Pool T) : Type 0 where

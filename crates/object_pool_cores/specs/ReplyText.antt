@@ -3,7 +3,7 @@ use Rattle.std.specs.Prelude.{◌≡◌, ℕ, Option, Some, None, List, ◌++◌
 use Rattle.std.specs.Fmt.{decimal}
 use Rattle.object_pool_cores.specs.Item.{item_value}
 use Rattle.pool_parts.specs.declared.pull_error.PullError.{PullError}
-use Rattle.pool_parts.specs.declared.pull_error.PullError.TheVariants.{Memory, Init, Limit}
+use Rattle.pool_parts.specs.declared.pull_error.PullError.TheVariants.{Memory, Init, Limit, Closed}
 use Rattle.object_pool_cores.specs.declared.sequential.attach_error.AttachError.{AttachError}
 use Rattle.object_pool_cores.specs.declared.sequential.attach_error.AttachError.TheVariants as attach
 use Rattle.object_pool_cores.specs.declared.sequential.reply.Reply.{Reply}
@@ -25,6 +25,7 @@ abbrev pub refusal_text : PullError → List ℕ
 refusal_text Memory = codes "refused memory"
 refusal_text Init = codes "refused init"
 refusal_text Limit = codes "refused limit"
+refusal_text Closed = codes "refused closed"
 
 -- why an attach was refused
 abbrev pub attach_refusal_text : AttachError ℕ → List ℕ

@@ -2,6 +2,7 @@ pub mod Merging
 pub mod Names
 pub mod Parts
 pub mod Together
+pub mod Returned
 pub mod SameRun
 pub mod Moves
 pub mod Counterexamples

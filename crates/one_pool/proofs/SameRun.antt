@@ -255,13 +255,3 @@ module _ {T : Type 0} where
         same_values = run_made first acts left;
         same_operations = run_operations acts left;
       }
-
-  -- a reset that may leave any value leaves each
-  pub any-left : (acts : List (Act T)) → AreLeft (λ old kept. ⊤) acts
-  any-left [] = tt
-  any-left (Operates (Pull user n value) ∷ acts) = any-left acts
-  any-left (Operates (Return user n kept) ∷ acts) = ((kept, tt), any-left acts)
-  any-left (Opens agent ∷ acts) = any-left acts
-  any-left (Writes agent value ∷ acts) = any-left acts
-  any-left (Grows agent values ∷ acts) = any-left acts
-  any-left (Refused agent cause ∷ acts) = any-left acts

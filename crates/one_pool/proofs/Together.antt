@@ -7,11 +7,12 @@ use Rattle.std.proofs.Common.{List, [], ◌∷◌, map, length, refl, ap, sym, �
 use Rattle.std.proofs.lemmas.Bool.{eq-eqb, ne_eqb, cases_eq, cases_lt}
 use Rattle.std.proofs.lemmas.List.{length-map}
 use Rattle.std.proofs.lemmas.List.Elements.{All-tail}
-use Rattle.std.specs.Prelude.{All, IsSomeAnd, IfSome, ⊤}
+use Rattle.std.specs.Prelude.{All, IsSomeAnd, IfSome}
 use Rattle.pool_parts.specs.declared.made_or_reset.MadeOrReset.{MadeOrReset}
 use Rattle.pool_parts.specs.declared.page.note.PageNote.{PageNote}
 use Rattle.pool_parts.specs.Item.{Item, IsFilled}
-use Rattle.pool_parts.specs.Ledger.{History, IsLegal}
+use Rattle.pool_parts.specs.Answers.{IsMadeOrReset}
+use Rattle.pool_parts.specs.Ledger.{History, IsLegal, EachReturned}
 use Rattle.pool_parts.specs.Page.{IsGivenBack, view_of}
 use Rattle.page_chain.specs.declared.linear_page.page_number.PageNumber.{PageNumber}
 use Rattle.linear_pools.specs.LinearPool.{Pulls, linear_view}
@@ -21,7 +22,8 @@ use Rattle.pool_world.specs.Pool.{AllowsPages}
 use Rattle.one_pool.specs.Steps.{Step, Links, OnPage, AreNames, history_of, linked, values_of, AreInOrder, AreLegalPages}
 use Rattle.one_pool.specs.Steps.{merged}
 use Rattle.one_pool.specs.Together.{Known, ArePagesOf, StandTogether, known_by, noted}
-use Rattle.one_pool.proofs.SameRun.{any-left, has-run}
+use Rattle.one_pool.proofs.Returned.{each-left}
+use Rattle.one_pool.proofs.SameRun.{has-run}
 use Rattle.one_pool.proofs.Merging.{merge, merged-pages, history-own, history-other}
 
 larger : (a b : ℕ) → (m : ℕ) × (a ≤ m) × (b ≤ m) × ((m ≡ a) ⊎ (m ≡ b))
@@ -199,10 +201,10 @@ module _ {T : Type 0} where
       all-values first histories count start page ∙ links-values values count page within in
       let history = λ (page : ℕ) (within : page ≤ count).
       all-history histories count start (links-history values count) page within in
+      let none = λ (page : ℕ) (past : count < page).
+      all-past histories count start page past ∙ links-history values count page in
       let pages : AreLegalPages first steps = λ page. elim (cases_lt count page) [
-        | inl past ↦
-            subst (IsLegal (map Some (values_of first page steps)))
-            (sym (all-past histories count start page past ∙ links-history values count page)) tt
+        | inl past ↦ subst (IsLegal (map Some (values_of first page steps))) (sym (none page past)) tt
         | inr within ↦
             subst (λ v. IsLegal (map Some v) (history_of page steps)) (sym (are page within))
             (subst (IsLegal (map Some (values page))) (sym (history page within)) (legal page))
@@ -213,17 +215,19 @@ module _ {T : Type 0} where
           pages = all-linked histories count start ∙ many;
           same_values = are;
           same_histories = history;
+          no_others = none;
           legal = merge name first (full 0) names steps order pages;
         },
       )
 
   -- two legal histories of different pages, which opened with 32 values each, are of one history of
   -- a pool
-  pub stand-together : (name : ℕ → ℕ → ℕ) → AreNames name → (limit : Option ℕ) (meets meets' : T → Type 0)
+  pub stand-together : (name : ℕ → ℕ → ℕ) → AreNames name → (limit : Option ℕ) (meets meets' kept : T → Type 0)
       (one other : Known T) → IfSome limit (λ pages. one.page < pages) → IfSome limit (λ pages. other.page < pages)
       → one.page ≢ other.page → IsFilled 32 meets one.opening → IsFilled 32 meets' other.opening
-      → IsLegal one.opening one.history → IsLegal other.opening other.history → StandTogether name limit one other
-  stand-together name names limit meets meets' one other fits fits' differ is is' legal legal' =
+      → IsLegal one.opening one.history → IsLegal other.opening other.history → EachReturned kept one.history
+      → EachReturned kept other.history → StandTogether name limit kept one other
+  stand-together name names limit meets meets' kept one other fits fits' differ is is' legal legal' each each' =
       let (here, opens, full) = filled-values meets one.opening is in
       let (there, opens', full') = filled-values meets' other.opening is' in
       let values = λ (at : ℕ). if at == other.page then there else here in
@@ -249,6 +253,17 @@ module _ {T : Type 0} where
       ] in
       let first = values 0 in
       let acts = merged name steps in
+      let of_each : (at : ℕ) → EachReturned kept (histories at) = λ at. elim (cases_eq at other.page) [
+        | inl same ↦ rw (eq-eqb at other.page same) each'
+        | inr apart ↦ rw (ne_eqb at other.page apart) (elim (cases_eq at one.page) [
+          | inl same ↦ rw (eq-eqb at one.page same) each
+          | inr neither ↦ rw (ne_eqb at one.page neither) tt
+        ])
+      ] in
+      let returned : (page : ℕ) → EachReturned kept (history_of page steps) = λ page. elim (cases_lt count page) [
+        | inl past ↦ subst (EachReturned kept) (sym (they.no_others page past)) tt
+        | inr inside ↦ subst (EachReturned kept) (sym (they.same_histories page inside)) (of_each page)
+      ] in
       record {
         first = first;
         full = all 0;
@@ -266,7 +281,7 @@ module _ {T : Type 0} where
           history = they.same_histories other.page within' ∙ rw (eq-eqb other.page other.page refl) refl;
         };
         legal = they.legal;
-        run = has-run (λ old kept. ⊤) first limit acts (any-left acts)
+        run = has-run (λ old value. kept value) first limit acts (each-left kept name steps returned)
             (subst (AllowsPages limit) (sym (merged-pages name steps)) fit) they.legal;
       }
 
@@ -277,11 +292,12 @@ module _ {T I R K : Type 0} where
       (number number' : PageNumber T (MadeOrReset I R K) (AnswerOf I K)) (item item' : Item T)
       → number.number ≢ number'.number → Pulls meets answers leaves pool number item
       → Pulls meets answers leaves pool number' item'
-      → StandTogether name (linear_view pool).limit (known_by number.number item) (known_by number'.number item')
+      → StandTogether name (linear_view pool).limit (λ value. meets value × IsMadeOrReset answers leaves value)
+      (known_by number.number item) (known_by number'.number item')
   pulls-together name names meets answers leaves pool number number' item item' differ pulled pulled' =
-      stand-together name names (linear_view pool).limit _ _ (known_by number.number item)
+      stand-together name names (linear_view pool).limit _ _ _ (known_by number.number item)
       (known_by number'.number item') pulled.within pulled'.within differ pulled.opened
-      pulled'.opened pulled.pulled.legal pulled'.pulled.legal
+      pulled'.opened pulled.pulled.legal pulled'.pulled.legal pulled.each_returned pulled'.each_returned
 
   -- and with their returns, as notes of them know
   pub returns-together : (name : ℕ → ℕ → ℕ) → AreNames name → (meets : T → Type 0) (answers : I → Option T → Type 0)
@@ -290,15 +306,18 @@ module _ {T I R K : Type 0} where
       → number.number ≢ number'.number
       → Pulls meets answers leaves pool number item → Pulls meets answers leaves pool number' item'
       → IsGivenBack by item note → IsGivenBack by' item' note'
-      → StandTogether name (linear_view pool).limit (noted number.number note) (noted number'.number note')
+      → EachReturned (λ value. meets value × IsMadeOrReset answers leaves value) (view_of note.seat).operations
+      → EachReturned (λ value. meets value × IsMadeOrReset answers leaves value) (view_of note'.seat).operations
+      → StandTogether name (linear_view pool).limit (λ value. meets value × IsMadeOrReset answers leaves value)
+      (noted number.number note) (noted number'.number note')
   returns-together name names meets answers leaves by by' pool number number' item item' note note' differ pulled pulled'
-      back back' =
+      back back' each each' =
       let opens = λ (is : Item T) (of : PageNote T) (gives : T → T → Type 0) (given : IsGivenBack gives is of).
       sym given.returned.same_opening in
-      stand-together name names (linear_view pool).limit _ _ (noted number.number note) (noted number'.number note')
+      stand-together name names (linear_view pool).limit _ _ _ (noted number.number note) (noted number'.number note')
       pulled.within pulled'.within differ
       (subst (IsFilled 32 _) (opens item note by back) pulled.opened)
       (subst (IsFilled 32 _) (opens item' note' by' back') pulled'.opened)
       (subst (λ opening. IsLegal opening (view_of note.seat).operations) (opens item note by back) back.returned.legal)
       (subst (λ opening. IsLegal opening (view_of note'.seat).operations) (opens item' note' by' back')
-      back'.returned.legal)
+      back'.returned.legal) each each'

@@ -1,5 +1,5 @@
 -- What is known of several pages of one pool, together.
-use Rattle.std.specs.Prelude.{◌≡◌, ℕ, ◌≤◌, ◌+◌, Some, List, Option, map, length, ⊤}
+use Rattle.std.specs.Prelude.{◌≡◌, ℕ, ◌≤◌, ◌+◌, Some, ◌<◌, List, [], Option, map, length}
 use Rattle.pool_parts.specs.declared.page.word.TheConstants.{PAGE_ITEMS}
 use Rattle.pool_parts.specs.declared.page.note.PageNote.{PageNote}
 use Rattle.pool_parts.specs.Ledger.{History}
@@ -43,17 +43,19 @@ module _ {T : Type 0} where
     pub pages : linked steps ≡ count + 1
     pub same_values : (page : ℕ) → page ≤ count → values_of (values 0) page steps ≡ values page
     pub same_histories : (page : ℕ) → page ≤ count → history_of page steps ≡ histories page
+    pub no_others : (page : ℕ) → count < page → history_of page steps ≡ []
     pub legal : AreLegalActs (values 0) (merged name steps)
 
   -- what is known of two pages is of one legal history of a pool that grows, within the limit. It
-  -- is a run of the main theorem, with a reset that may leave any value
-  pub record StandTogether (name : ℕ → ℕ → ℕ) (limit : Option ℕ) (one other : Known T) : Type 0 where
-    pub first : List T
-    pub full : length first ≡ PAGE_ITEMS
-    pub steps : List (Step T)
-    pub in_order : AreInOrder steps
-    pub allowed : AllowsPages limit (linked steps)
-    pub one_known : IsKnownOf first steps one
-    pub other_known : IsKnownOf first steps other
-    pub legal : AreLegalActs first (merged name steps)
-    pub run : HasRun (λ old kept. ⊤) limit first (merged name steps)
+  -- is a run of the main theorem, with a reset that leaves only values of this kind
+  pub record StandTogether (name : ℕ → ℕ → ℕ) (limit : Option ℕ) (kept : T → Type 0) (one other : Known T) : Type 0
+    where
+      pub first : List T
+      pub full : length first ≡ PAGE_ITEMS
+      pub steps : List (Step T)
+      pub in_order : AreInOrder steps
+      pub allowed : AllowsPages limit (linked steps)
+      pub one_known : IsKnownOf first steps one
+      pub other_known : IsKnownOf first steps other
+      pub legal : AreLegalActs first (merged name steps)
+      pub run : HasRun (λ old value. kept value) limit first (merged name steps)

@@ -1,5 +1,6 @@
-//! Two items of one linear pool, of different pages: callers that put the laws to use.
+//! Two items of one linear pool: callers that put the laws to use.
 ghost use Rattle.std.specs.Prelude.{◌≡◌, ◌≢◌, IfOk};
+ghost use Rattle.pool_parts.specs.Answers.{IsMadeOrReset};
 ghost use Rattle.linear_pools.specs.LinearPool.{Pulls, linear_view};
 ghost use Rattle.one_pool.specs.Together.{StandTogether, known_by, noted};
 ghost use Rattle.one_pool.specs.Names.{pool_user};
@@ -31,6 +32,7 @@ pub fn pull_two<'p, T: Drop, I: Init<T, K>, R: Reset<T, K>, K: Clean<T>>(
         two.1.item) }
     ensures together { IfOk result (λ two. two.0.number.number ≢ two.1.number.number
         → StandTogether pool_user (linear_view pool.now).limit
+        (λ value. K.meets value × IsMadeOrReset I.answers R.leaves value)
         (known_by two.0.number.number two.0.item) (known_by two.1.number.number two.1.item)) }
 {
     let one = pool.pull()?;
@@ -48,9 +50,30 @@ pub fn return_two<T: Drop, I: Init<T, K>, R: Reset<T, K>, K: Clean<T>>(
     requires other { Pulls K.meets I.answers R.leaves one.pool other.number other.item }
     requires apart { one.number.number ≢ other.number.number }
     ensures { StandTogether pool_user (linear_view one.entry.pool).limit
+        (λ value. K.meets value × IsMadeOrReset I.answers R.leaves value)
         (noted one.entry.number.number result.0) (noted other.entry.number.number result.1) }
 {
     let of_other = other.give_back();
     let of_one = one.give_back();
     (of_one, of_other)
+}
+
+/// Ensures that two items of a pool, whose pages have one number, are two items of one page: their
+/// ids differ. It changes neither item.
+pub fn are_two<T: Drop, I: Init<T, K>, R: Reset<T, K>, K: Clean<T>>(
+    one: &mut LinearReusable<'_, T, I, R, K>,
+    other: &mut LinearReusable<'_, T, I, R, K>,
+)
+    requires of_pool { other.old.pool ≡ one.old.pool }
+    requires one { Pulls K.meets I.answers R.leaves one.old.pool one.old.number one.old.item }
+    requires other { Pulls K.meets I.answers R.leaves one.old.pool other.old.number
+        other.old.item }
+    requires number { other.old.number.number ≡ one.old.number.number }
+    ensures page { other.old.item.page ≡ one.old.item.page }
+    ensures differ { one.old.item.id ≢ other.old.item.id }
+    ensures same { one.new ≡ one.old }
+    ensures same_other { other.new ≡ other.old }
+{
+    one.same_page(other);
+    one.differs_from(other);
 }

@@ -64,7 +64,7 @@ module _ {T : Type 0} where
       → Knows opening (operation ∷ operations) user known
   informed_later opening operations operation user known differ knows = record {
     seen = prefix_operation known.operations operations operation knows.seen;
-    told = prefix_operation known.told operations operation knows.told;
+    merged = prefix_operation known.merged operations operation knows.merged;
     acting = λ here. let is = knows.acting here in record {
       sound = is.sound;
       number = is.number;

@@ -16,7 +16,7 @@ use Rattle.pool_parts.proofs.Views.{HasMet, AllHaveMet, introduced_to}
 module _ {T : Type 0} where
   -- one user's view has changed: whom another has met is there still
   still_met : (views : List (UserView T)) (user : ℕ) (old new known : UserView T) → get_elem? views user ≡ some old
-      → (new.gone ≡ false → (old.gone ≡ false) × (old.meetings ≤ new.meetings)) → HasMet views known
+      → (new.retired ≡ false → (old.retired ≡ false) × (old.meetings ≤ new.meetings)) → HasMet views known
       → HasMet (set views user new) known
   still_met views user old new known at later has other count met =
       let there = has other count met in
@@ -29,14 +29,14 @@ module _ {T : Type 0} where
             let is : there.0 ≡ old =
             some-injective there.0 old (sym there.1 ∙ ap (get_elem? views) same ∙ at) in
             let before = later here in
-            let said = there.2 (ap (λ (known : UserView T). known.gone) is ∙ before.0) in
+            let said = there.2 (ap (λ (known : UserView T). known.retired) is ∙ before.0) in
             let had = ap (λ (known : UserView T). known.meetings) is in
             omega (arith, before.1),
       ))
       (λ differ. (there.0, set_else views user other new differ ∙ there.1, there.2))
 
   pub met_set : (views : List (UserView T)) (user : ℕ) (old new : UserView T) → get_elem? views user ≡ some old
-      → (new.gone ≡ false → (old.gone ≡ false) × (old.meetings ≤ new.meetings)) → HasMet views new → AllHaveMet views
+      → (new.retired ≡ false → (old.retired ≡ false) × (old.meetings ≤ new.meetings)) → HasMet views new → AllHaveMet views
       → AllHaveMet (set views user new)
   met_set views user old new at later mine all who known there =
       still_met views user old new known at later (elim (at_set views user who new known there) [
@@ -46,10 +46,10 @@ module _ {T : Type 0} where
 
   -- the same where the user has met nobody since
   pub met_same : (views : List (UserView T)) (user : ℕ) (old new : UserView T) → get_elem? views user ≡ some old
-      → new.gone ≡ old.gone → new.met ≡ old.met → new.meetings ≡ old.meetings → AllHaveMet views
+      → new.retired ≡ old.retired → new.met ≡ old.met → new.meetings ≡ old.meetings → AllHaveMet views
       → AllHaveMet (set views user new)
-  met_same views user old new at gone met meetings all =
-      met_set views user old new at (λ here. (sym gone ∙ here, omega arith))
+  met_same views user old new at retired met meetings all =
+      met_set views user old new at (λ here. (sym retired ∙ here, omega arith))
       (λ other count is. all user old at other count (sym met ∙ is)) all
 
   -- a user has come
@@ -110,12 +110,12 @@ module _ {T : Type 0} where
     two_items id one_holds other_holds =
         let same_user : met_one.0.user ≡ one.0.user = ap (λ (known : UserView T). known.user) start.knows in
         let same_own : met_one.0.own ≡ one.0.own = ap (λ (known : UserView T). known.own) start.knows in
-        let at_end : operations_of one.0.user last.0.told ≡ one.0.own =
-        ap (λ user. operations_of user last.0.told) (sym same_user) ∙ back.own ∙ same_own in
-        let own : operations_of one.0.user met_other.0.told ≡ one.0.own =
-        own_between one.0.user met_one.0.told met_other.0.told last.0.told one.0.own there.after_told back.after_told
+        let at_end : operations_of one.0.user last.0.merged ≡ one.0.own =
+        ap (λ user. operations_of user last.0.merged) (sym same_user) ∙ back.own ∙ same_own in
+        let own : operations_of one.0.user met_other.0.merged ≡ one.0.own =
+        own_between one.0.user met_one.0.merged met_other.0.merged last.0.merged one.0.own there.after_told back.after_told
         start.own at_end in
         let one_has = ap held_id own ∙ sym start.holds ∙ one_holds in
         let other_has = ap held_id there.own ∙ sym there.holds ∙ other_holds in
-        two_users (same_user ∙ (held other.0.opening met_other.0.told there.legal).one one.0.user other.0.user id
+        two_users (same_user ∙ (held other.0.opening met_other.0.merged there.legal).one one.0.user other.0.user id
         one_has other_has)

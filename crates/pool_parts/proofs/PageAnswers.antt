@@ -29,12 +29,12 @@ module _ {T : Type 0} where
   }
 
   -- what was observed taken since a load, told of the user as it is now
-  pub knows_out : (start known : UserView T) (id : ℕ) → GoesOn [] start known → IsPrefixOf start.since start.operations
-      → WasOutBetween known.opening start.operations known.operations id → WasOutBetween known.opening known.since
+  pub knows_out : (start known : UserView T) (id : ℕ) → GoesOn [] start known → IsPrefixOf start.at_load start.operations
+      → WasOutBetween known.opening start.operations known.operations id → WasOutBetween known.opening known.at_load
       known.operations id
   knows_out start known id goes began was =
-      subst (λ since. WasOutBetween known.opening since known.operations id) (sym goes.same_since)
-      (out_longer known.opening start.since start.operations known.operations id began was)
+      subst (λ at_load. WasOutBetween known.opening at_load known.operations id) (sym goes.same_since)
+      (out_longer known.opening start.at_load start.operations known.operations id began was)
 
   -- the user of a pull has acted since its load: the pull is the one operation more
   pub pulled : (page : TableId) (start known : UserView T) (seated : TableId) (id : ℕ) (value : T) → IsSound start
@@ -77,24 +77,24 @@ module _ {T : Type 0} where
 
   -- what a call found that observed each of so many items taken, since its user stood here at its load
   pub found_out : (count : ℕ) (page : TableId) (start : UserView T) (seen : SeenView T) → seen.page ≡ page
-      → start.since ≡ start.operations → GoesOn [] start seen.known
+      → start.at_load ≡ start.operations → GoesOn [] start seen.known
       → ((id : ℕ) → id < count → WasOutBetween seen.known.opening start.operations seen.known.operations id)
       → IsAllOut count page start seen
   found_out count page start seen of_page from_now goes each =
       let known = seen.known in
-      let since = goes.same_since ∙ from_now in
+      let at_load = goes.same_since ∙ from_now in
       record {
         of_page = of_page;
         knows = record {
           same_user = goes.same_user;
           same_opening = goes.same_opening;
           legal = legal_of start.opening known goes.same_opening goes.sound;
-          after_known = subst (IsPrefixOf start.operations) (sym since) ([], refl);
+          after_known = subst (IsPrefixOf start.operations) (sym at_load) ([], refl);
           goes_on = goes.sound.since_load;
         };
         each_was_out = λ id within.
             subst (λ (p : List (Option T) × History T). WasOutBetween p.0 p.1 known.operations id) (λ i.
-            (goes.same_opening i, sym since i)) (each id within);
+            (goes.same_opening i, sym at_load i)) (each id within);
       }
 
   -- and so it is of the user as it was before that load
@@ -109,12 +109,12 @@ module _ {T : Type 0} where
           same_user = knew.same_user ∙ starts.same_user;
           same_opening = knew.same_opening ∙ starts.same_opening;
           legal = subst (λ opening. IsLegal opening known.operations) starts.same_opening knew.legal;
-          after_known = prefix_further before.operations start.operations known.since starts.after_known
+          after_known = prefix_further before.operations start.operations known.at_load starts.after_known
               knew.after_known;
           goes_on = knew.goes_on;
         };
         each_was_out = λ id within.
-            subst (λ opening. WasOutBetween opening known.since known.operations id) starts.same_opening
+            subst (λ opening. WasOutBetween opening known.at_load known.operations id) starts.same_opening
             (is.each_was_out id within);
       }
 
@@ -130,11 +130,11 @@ module _ {T : Type 0} where
           same_user = refl;
           same_opening = refl;
           legal = subst (λ opening. IsLegal opening known.operations) opened is.knows.legal;
-          after_known = (known.since, sym (append-nil known.since));
+          after_known = (known.at_load, sym (append-nil known.at_load));
           goes_on = is.knows.goes_on;
         };
         each_was_out = λ id within.
-            subst (λ opening. WasOutBetween opening known.since known.operations id) opened
+            subst (λ opening. WasOutBetween opening known.at_load known.operations id) opened
             (is.each_was_out id within);
       }
 

@@ -11,7 +11,7 @@ use Rattle.std.specs.Int.{bit_at}
 use Rattle.atomic_table.proofs.Lists.{set_else}
 use Rattle.pool_parts.specs.declared.page.user_view.UserView.{UserView}
 use Rattle.pool_parts.specs.declared.page.history.Operation.{Operation}
-use Rattle.pool_parts.specs.Ledger.{History, user_of, id_of, operations_of, held_id, left_by, value_at, MayFollow, IsLegal, IsPrefixOf, returns_among}
+use Rattle.pool_parts.specs.Ledger.{History, user_of, id_of, operations_of, held_id, left_by, value_at, MayFollow, IsLegal, IsPrefixOf, EachReturned, returns_among}
 use Rattle.pool_parts.specs.Item.{new_user}
 use Rattle.pool_parts.specs.PageRule.{item_bit, HasHistory, Knows, GoesOn, IsSound}
 use Rattle.pool_parts.proofs.Ledger.{operations_of_own, operations_of_other, value_at-here}
@@ -42,19 +42,20 @@ module _ {T : Type 0} where
   abbrev pub has_seen : UserView T → History T → ℕ → ℕ → UserView T
   has_seen old operations loads tries = went_on old operations [] old.held loads tries
 
-module _ {T : Type 0} (raise : ℕ) (opening : List (Option T)) where
+module _ {T : Type 0} (meets : T → Type 0) (raise : ℕ) (opening : List (Option T)) where
   -- what a user knows that comes now
   abbrev pub newcomer : History T → ℕ → UserView T
   newcomer operations user =
-      record (new_user opening user) { operations = operations; since = operations; loads = 1 }
+      record (new_user opening user) { operations = operations; at_load = operations; loads = 1 }
 
   pub joins_history : (page : State (Option T) (UserView T)) (known : UserView T)
-      → (has : HasHistory raise opening page)
+      → (has : HasHistory meets raise opening page)
       → Knows opening has.operations (length page.views) known
-      → HasHistory raise opening (state page.words page.homes (page.views ++ known ∷ []))
+      → HasHistory meets raise opening (state page.words page.homes (page.views ++ known ∷ []))
   joins_history page known has is = record {
     operations = has.operations;
     legal = has.legal;
+    each_returned = has.each_returned;
     free_lies = has.free_lies;
     out_lies = has.out_lies;
     informed = λ user view at. elim (at_snoc_last page.views known view user at) [
@@ -67,7 +68,7 @@ module _ {T : Type 0} (raise : ℕ) (opening : List (Option T)) where
   }
 
   -- an item whose bit is clear in its word is out now
-  pub clear_out : (page : State (Option T) (UserView T)) (has : HasHistory raise opening page) (own : List (Option T))
+  pub clear_out : (page : State (Option T) (UserView T)) (has : HasHistory meets raise opening page) (own : List (Option T))
       → own ≡ opening
       → (place bit : ℕ) → bit < 32 → bit_at (get_or page.words place 0) bit ≡ 0
       → value_at own has.operations (32 * place + bit) ≡ None
@@ -77,13 +78,14 @@ module _ {T : Type 0} (raise : ℕ) (opening : List (Option T)) where
 
   -- no bit has changed, and one user knows something else
   pub saw_history : (page : State (Option T) (UserView T)) (words : List ℕ) (user : ℕ) (known : UserView T)
-      → (has : HasHistory raise opening page) → ((i : ℕ) → item_bit words i ≡ item_bit page.words i)
+      → (has : HasHistory meets raise opening page) → ((i : ℕ) → item_bit words i ≡ item_bit page.words i)
       → ((p : ℕ) → ((get_or words p 0) / 2 ^ 32) ≡ ((get_or page.words p 0) / 2 ^ 32))
       → Knows opening has.operations user known
-      → HasHistory raise opening (state words page.homes (set page.views user known))
+      → HasHistory meets raise opening (state words page.homes (set page.views user known))
   saw_history page words user known has same_bits same_counts knows = record {
     operations = has.operations;
     legal = has.legal;
+    each_returned = has.each_returned;
     free_lies = λ i set_now. has.free_lies i (sym (same_bits i) ∙ set_now);
     out_lies = λ i out_now. has.out_lies i (sym (same_bits i) ∙ out_now);
     informed = informed_set opening has.operations page.views user known (λ other view _ there.
@@ -93,8 +95,8 @@ module _ {T : Type 0} (raise : ℕ) (opening : List (Option T)) where
   }
 
   -- one user goes on
-  module _ (page : State (Option T) (UserView T)) (has : HasHistory raise opening page) (user : ℕ) (me : UserView T)
-      (at : get_elem? page.views user ≡ some me) (here : me.gone ≡ false) where
+  module _ (page : State (Option T) (UserView T)) (has : HasHistory meets raise opening page) (user : ℕ) (me : UserView T)
+      (at : get_elem? page.views user ≡ some me) (here : me.retired ≡ false) where
     own_now : operations_of me.user has.operations ≡ me.own
     own_now = let is = (has.informed user me at).acting here in
         ap (λ u. operations_of u has.operations) is.number ∙ is.own_so_far
@@ -113,14 +115,14 @@ module _ {T : Type 0} (raise : ℕ) (opening : List (Option T)) where
         let more : IsPrefixOf has.operations now = (made, refl) in
         let sound : IsSound (went_on me has.operations made held loads tries) = record {
           legal = subst (λ o. IsLegal o now) (sym is.same_opening) allowed;
-          since_load = prefix_further me.since me.operations now is.sound.since_load
+          since_load = prefix_further me.at_load me.operations now is.sound.since_load
               (prefix_further me.operations has.operations now knows.seen more);
           own_operations = ap (λ u. operations_of u now) is.number ∙ own;
           holds = holds;
         } in (
           record {
             seen = prefix_same now;
-            told = prefix_further me.told has.operations now knows.told more;
+            merged = prefix_further me.merged has.operations now knows.merged more;
             acting = λ _.
                 record { sound = sound; number = is.number; same_opening = is.same_opening; own_so_far = own };
           },
@@ -145,6 +147,7 @@ module _ {T : Type 0} (raise : ℕ) (opening : List (Option T)) where
     -- it acts on an item, whose bit turns to this, and at whose place this lies now
     pub acts_history : (words : List ℕ) (bit : ℕ) (home : maybe.Option (Option T)) (operation : Operation T) (tries : ℕ)
         → user_of operation ≡ me.user → MayFollow opening has.operations operation
+        → EachReturned meets (operation ∷ has.operations)
         → Turns page.words (id_of operation) bit words
         → (bit ≡ 1 → (value : T)
         → get_elem? (set page.homes (id_of operation) home) (id_of operation) ≡ some (some (Some value))
@@ -152,11 +155,11 @@ module _ {T : Type 0} (raise : ℕ) (opening : List (Option T)) where
         → (bit ≡ 0 → left_by operation ≡ None)
         → ((p : ℕ) → ((get_or words p 0) / 2 ^ 32)
         ≡ (raise * returns_among (λ id. id / 32 == p) (operation ∷ has.operations)) % 2 ^ 32)
-        → HasHistory raise opening
+        → HasHistory meets raise opening
         (state words (set page.homes (id_of operation) home)
         (set page.views user (acted me has.operations operation tries)))
         × GoesOn (operation ∷ []) me (acted me has.operations operation tries)
-    acts_history words bit home operation tries mine may turned free out counted =
+    acts_history words bit home operation tries mine may each_returned turned free out counted =
         let id : ℕ = id_of operation in
         let homes = set page.homes id home in
         let known : UserView T = acted me has.operations operation tries in
@@ -168,6 +171,7 @@ module _ {T : Type 0} (raise : ℕ) (opening : List (Option T)) where
           record {
             operations = operation ∷ has.operations;
             legal = (may, has.legal);
+            each_returned = each_returned;
             free_lies = λ i set_now found home_now. dite (ℕ_discrete id i)
                 (λ same. value_at-here opening operation has.operations i same
                 ∙ free (sym turned.here ∙ ap (item_bit words) same ∙ set_now) found

@@ -60,7 +60,7 @@ module _ {T : Type 0} (meets : T → Type 0) where
         let first = only_one (new_user items 0) known user at in
         subst (λ (pair : ℕ × UserView T). Knows items [] pair.0 pair.1) (λ i. (first.0 i, first.1 i)) record {
           seen = prefix_same [];
-          told = prefix_same [];
+          merged = prefix_same [];
           acting = λ _. record {
             sound = record { legal = tt; since_load = prefix_same []; own_operations = refl; holds = refl };
             number = refl;
@@ -79,6 +79,7 @@ module _ {T : Type 0} (meets : T → Type 0) where
       history = record {
         operations = [];
         legal = tt;
+        each_returned = tt;
         free_lies = λ id free value home. opening_at items id (Some value) home;
         out_lies = nothing_past;
         informed = first_informed;

@@ -36,7 +36,7 @@ module _ {T : Type 0} (meets : T → Type 0) (raise : ℕ) (opening : List (Opti
       Loads place (new_user opening known.user, []) word (known, []))
   loads slots place page kept places fits =
       let has = kept.history in
-      let known : UserView T = newcomer raise opening has.operations (length page.views) in
+      let known : UserView T = newcomer meets raise opening has.operations (length page.views) in
       let own : operations_of (length page.views) has.operations ≡ [] =
       has.no_stranger (length page.views) (omega arith) in
       let sound : IsSound known =
@@ -44,9 +44,9 @@ module _ {T : Type 0} (meets : T → Type 0) (raise : ℕ) (opening : List (Opti
         known,
         record {
           is_page = joins_page meets page known kept.is_page refl;
-          history = joins_history raise opening page known has record {
+          history = joins_history meets raise opening page known has record {
             seen = prefix_same has.operations;
-            told = (has.operations, sym (append-nil has.operations));
+            merged = (has.operations, sym (append-nil has.operations));
             acting = λ _. record { sound = sound; number = refl; same_opening = refl; own_so_far = own };
           };
           have_met = met_snoc page.views known (met_nobody page.views known refl) kept.have_met;
@@ -65,7 +65,7 @@ module _ {T : Type 0} (meets : T → Type 0) (raise : ℕ) (opening : List (Opti
           loads = refl;
           tries = refl;
           sound = sound;
-          clear_are_out = clear_out raise opening page has opening refl place;
+          clear_are_out = clear_out meets raise opening page has opening refl place;
         },
       )
 
@@ -77,7 +77,7 @@ module _ {T : Type 0} (meets : T → Type 0) (raise : ℕ) (opening : List (Opti
       → IsKept meets raise opening (told_page page user known)
   sees page user old known kept at held met knows = record {
     is_page = keeps_item meets page page.words user old known kept.is_page refl (λ i. refl) at held;
-    history = saw_history raise opening page page.words user known kept.history (λ i. refl) (λ i. refl) knows;
+    history = saw_history meets raise opening page page.words user known kept.history (λ i. refl) (λ i. refl) knows;
     have_met = met;
   }
 
@@ -93,11 +93,11 @@ module _ {T : Type 0} (meets : T → Type 0) (raise : ℕ) (opening : List (Opti
       (sym (set-get_or page.words place 0)) (sees page user old known kept at (λ i holds. sym same ∙ holds) met knows)
 
   -- what a user knows, beside what it was told, whom it met and where its last call began
-  told_since : (known : UserView T) (since told : History T) (met : Option (ℕ × ℕ)) (meetings : ℕ)
-      (operations : History T) (user : ℕ) → IsPrefixOf since known.operations
+  told_since : (known : UserView T) (at_load merged : History T) (met : Option (ℕ × ℕ)) (meetings : ℕ)
+      (operations : History T) (user : ℕ) → IsPrefixOf at_load known.operations
       → IsInformed opening operations user known
-      → IsInformed opening operations user record known { since = since; told = told; met = met; meetings = meetings }
-  told_since known since told met meetings operations user began is = record {
+      → IsInformed opening operations user record known { at_load = at_load; merged = merged; met = met; meetings = meetings }
+  told_since known at_load merged met meetings operations user began is = record {
     sound = record {
       legal = is.sound.legal;
       since_load = began;
@@ -109,23 +109,23 @@ module _ {T : Type 0} (meets : T → Type 0) (raise : ℕ) (opening : List (Opti
     own_so_far = is.own_so_far;
   }
 
-  pub loads_again : (slots place user : ℕ) (me : User T) → me.0.gone ≡ false
+  pub loads_again : (slots place user : ℕ) (me : User T) → me.0.retired ≡ false
       → Allows (IsKept meets raise opening) slots user me place (λ word. word) (Loads place me)
   loads_again slots place user me here page kept places at fits =
       let has = kept.history in
       let knew = has.informed user me.0 at in
-      let step = after_load raise opening page has user me.0 at here (me.0.loads + 1) me.0.tries in
+      let step = after_load meets raise opening page has user me.0 at here (me.0.loads + 1) me.0.tries in
       let known : UserView T =
-      record me.0 { operations = has.operations; since = has.operations; loads = me.0.loads + 1 } in
+      record me.0 { operations = has.operations; at_load = has.operations; loads = me.0.loads + 1 } in
       let is : IsInformed opening has.operations user known = told_since
-      (has_seen me.0 has.operations (me.0.loads + 1) me.0.tries) has.operations me.0.told me.0.met me.0.meetings
+      (has_seen me.0 has.operations (me.0.loads + 1) me.0.tries) has.operations me.0.merged me.0.met me.0.meetings
       has.operations user (prefix_same has.operations) (step.0.acting here) in (
         known,
         keeps,
         tt,
         reads page place user me.0 known kept at refl
             (met_same page.views user me.0 known at refl refl refl kept.have_met)
-            record { seen = step.0.seen; told = knew.told; acting = λ _. is },
+            record { seen = step.0.seen; merged = knew.merged; acting = λ _. is },
         record {
           holds_same = refl;
           carries_same = refl;
@@ -136,11 +136,11 @@ module _ {T : Type 0} (meets : T → Type 0) (raise : ℕ) (opening : List (Opti
           own_same = refl;
           from_now = refl;
           after_known = knew.seen;
-          after_told = knew.told;
+          after_told = knew.merged;
           loads = refl;
           tries = refl;
           sound = is.sound;
-          clear_are_out = clear_out raise opening page has me.0.opening is.same_opening place;
+          clear_are_out = clear_out meets raise opening page has me.0.opening is.same_opening place;
         },
       )
 
@@ -152,16 +152,16 @@ module _ {T : Type 0} (meets : T → Type 0) (raise : ℕ) (opening : List (Opti
       { words = page.words; homes = page.homes; views = views ++ witness_of me ∷ [] })
       (sym (set_again page.views user me at)) record {
         is_page = joins_page meets page (witness_of me) kept.is_page refl;
-        history = joins_history raise opening page (witness_of me) has record {
+        history = joins_history meets raise opening page (witness_of me) has record {
           seen = (has.informed user me at).seen;
-          told = (has.operations, sym (append-nil has.operations));
-          acting = λ gone. absurd (true≢false gone);
+          merged = (has.operations, sym (append-nil has.operations));
+          acting = λ retired. absurd (true≢false retired);
         };
         have_met = met_snoc page.views (witness_of me) (met_nobody page.views (witness_of me) refl) kept.have_met;
       }
 
   -- a user that introduces itself
-  pub introduces : (user : ℕ) (me : UserView T) → me.gone ≡ false
+  pub introduces : (user : ℕ) (me : UserView T) → me.retired ≡ false
       → Splits (IsKept meets raise opening) user me me (introduction_of me)
   introduces user me here page kept at =
       let has = kept.history in
@@ -170,10 +170,10 @@ module _ {T : Type 0} (meets : T → Type 0) (raise : ℕ) (opening : List (Opti
       { words = page.words; homes = page.homes; views = views ++ introduction_of me ∷ [] })
       (sym (set_again page.views user me at)) record {
         is_page = joins_page meets page (introduction_of me) kept.is_page refl;
-        history = joins_history raise opening page (introduction_of me) has record {
-          seen = knew.told;
-          told = (has.operations, sym (append-nil has.operations));
-          acting = λ gone. absurd (true≢false gone);
+        history = joins_history meets raise opening page (introduction_of me) has record {
+          seen = knew.merged;
+          merged = (has.operations, sym (append-nil has.operations));
+          acting = λ retired. absurd (true≢false retired);
         };
         have_met = met_snoc page.views (introduction_of me) (λ other count met.
             let said : (me.user, me.meetings) ≡ (other, count) = cc in
@@ -186,13 +186,13 @@ module _ {T : Type 0} (meets : T → Type 0) (raise : ℕ) (opening : List (Opti
       }
 
   -- a user to whom another was introduced is told the history so far
-  pub meets_other : (slots place user : ℕ) (me : User T) → me.0.gone ≡ false
+  pub meets_other : (slots place user : ℕ) (me : User T) → me.0.retired ≡ false
       → Allows (IsKept meets raise opening) slots user me place (λ word. word) (λ _. Meets me)
   meets_other slots place user me here page kept places at fits =
       let has = kept.history in
       let knew = has.informed user me.0 at in
       let is = knew.acting here in
-      let known : UserView T = record me.0 { told = has.operations; meetings = me.0.meetings + 1 } in (
+      let known : UserView T = record me.0 { merged = has.operations; meetings = me.0.meetings + 1 } in (
         known,
         keeps,
         tt,
@@ -200,8 +200,8 @@ module _ {T : Type 0} (meets : T → Type 0) (raise : ℕ) (opening : List (Opti
             (met_set page.views user me.0 known at (λ _. (here, omega arith)) (kept.have_met user me.0 at)
             kept.have_met) record {
               seen = knew.seen;
-              told = prefix_same has.operations;
-              acting = λ _. told_since me.0 me.0.since has.operations me.0.met (me.0.meetings + 1) has.operations
+              merged = prefix_same has.operations;
+              acting = λ _. told_since me.0 me.0.at_load has.operations me.0.met (me.0.meetings + 1) has.operations
                   user is.sound.since_load is;
             },
         record {
@@ -209,20 +209,20 @@ module _ {T : Type 0} (meets : T → Type 0) (raise : ℕ) (opening : List (Opti
           carries_same = refl;
           once_more = refl;
           legal = subst (λ o. IsLegal o has.operations) (sym is.same_opening) has.legal;
-          after_told = knew.told;
+          after_told = knew.merged;
           own = ap (λ u. operations_of u has.operations) is.number ∙ is.own_so_far;
           holds = is.sound.holds;
           apart = λ count met.
               let there = kept.have_met user me.0 at me.0.user count met in
               let same : there.0 ≡ me.0 =
               some-injective there.0 me.0 (sym there.1 ∙ ap (get_elem? page.views) is.number ∙ at) in
-              let said = there.2 (ap (λ (known : UserView T). known.gone) same ∙ here) in
+              let said = there.2 (ap (λ (known : UserView T). known.retired) same ∙ here) in
               let had = ap (λ (known : UserView T). known.meetings) same in
               omega arith;
         },
       )
 
-  pub tells : (user other : ℕ) (me them : UserView T) → me.gone ≡ false
+  pub tells : (user other : ℕ) (me them : UserView T) → me.retired ≡ false
       → Joins (IsKept meets raise opening) user me other them (told_of me them) gone_view
   tells user other me them here page kept at apart at_other =
       let known = told_of me them in
@@ -236,18 +236,18 @@ module _ {T : Type 0} (meets : T → Type 0) (raise : ℕ) (opening : List (Opti
       (met_set page.views user me known at (λ _. (here, omega arith)) (kept.have_met other them theirs) kept.have_met)
       record {
         seen = knew.seen;
-        told = (kept.history.informed other them theirs).seen;
+        merged = (kept.history.informed other them theirs).seen;
         acting = λ _. let is = knew.acting here in
-            told_since me me.since them.operations them.met me.meetings kept.history.operations user is.sound.since_load
+            told_since me me.at_load them.operations them.met me.meetings kept.history.operations user is.sound.since_load
             is;
       } in
       let none : IsPrefixOf [] has_told.history.operations =
       (has_told.history.operations, sym (append-nil has_told.history.operations)) in
       let views : List (UserView T) = set page.views user known in
       sees (told_page page user known) other them gone_view has_told at_other (λ i holds. cc)
-      (met_set views other them gone_view at_other (λ gone. absurd (true≢false gone))
+      (met_set views other them gone_view at_other (λ retired. absurd (true≢false retired))
       (met_nobody views gone_view refl) has_told.have_met)
-      record { seen = none; told = none; acting = λ gone. absurd (true≢false gone) }
+      record { seen = none; merged = none; acting = λ retired. absurd (true≢false retired) }
 
   -- an item whose bit is set in its word is free now
   set_free : (page : State (Option T) (UserView T)) (kept : IsKept meets raise opening page) (own : List (Option T))
@@ -268,13 +268,13 @@ module _ {T : Type 0} (meets : T → Type 0) (raise : ℕ) (opening : List (Opti
         ),
       )
 
-  pub counts : (slots place user : ℕ) (me : User T) → raise ≡ 1 → me.0.gone ≡ false
+  pub counts : (slots place user : ℕ) (me : User T) → raise ≡ 1 → me.0.retired ≡ false
       → Allows (IsKept meets raise opening) slots user me place (λ word. word) (λ word.
       Counts slots place me word (word / 2 ^ 32))
   counts slots place user me once here page kept places at fits =
       let has = kept.history in
       let known : UserView T = has_seen me.0 has.operations (me.0.loads + 1) me.0.tries in
-      let step = after_load raise opening page has user me.0 at here (me.0.loads + 1) me.0.tries in
+      let step = after_load meets raise opening page has user me.0 at here (me.0.loads + 1) me.0.tries in
       let is = step.0.acting here in
       let opened = (has.informed user me.0 at).acting here in (
         known,
@@ -288,7 +288,7 @@ module _ {T : Type 0} (meets : T → Type 0) (raise : ℕ) (opening : List (Opti
           loads = refl;
           tries = refl;
           goes_on = step.1;
-          clear_are_out = clear_out raise opening page has me.0.opening is.same_opening place;
+          clear_are_out = clear_out meets raise opening page has me.0.opening is.same_opening place;
           set_are_free = set_free page kept me.0.opening opened.same_opening slots places place;
           counts = has.counted place ∙ ap (λ r. (r * returns_among (λ id. id / 32 == place) has.operations) % 2 ^ 32)
               once
@@ -298,7 +298,7 @@ module _ {T : Type 0} (meets : T → Type 0) (raise : ℕ) (opening : List (Opti
       )
 
   pub clears : (slots place user operand bit : ℕ) (me : User T) → bit < 32 → 32 * place < slots
-      → ClearsBit (2 ^ 64 - 1) bit operand → me.0.held ≡ None → me.0.gone ≡ false
+      → ClearsBit (2 ^ 64 - 1) bit operand → me.0.held ≡ None → me.0.retired ≡ false
       → Allows (IsKept meets raise opening) slots user me place (λ word.
       bit_and word operand) (Clears meets slots place operand me)
   clears slots place user operand bit me within inside lacks holds_none here page kept places at fits =
@@ -324,9 +324,9 @@ module _ {T : Type 0} (meets : T → Type 0) (raise : ℕ) (opening : List (Opti
             let operation : Operation T = Pull me.0.user id item.0 in
             let known : UserView T = acted me.0 has.operations operation (me.0.tries + 1) in
             let may : MayFollow opening has.operations operation =
-            (has.free_lies id free item.0 item.1, held_now raise opening page has user me.0 at here ∙ holds_none) in
-            let history = acts_history raise opening page has user me.0 at here words 0 none operation (me.0.tries + 1)
-            refl may turned (λ one. absurd (omega arith)) (λ _. refl) (λ p. counts_same p ∙ has.counted p) in (
+            (has.free_lies id free item.0 item.1, held_now meets raise opening page has user me.0 at here ∙ holds_none) in
+            let history = acts_history meets raise opening page has user me.0 at here words 0 none operation (me.0.tries + 1)
+            refl may has.each_returned turned (λ one. absurd (omega arith)) (λ _. refl) (λ p. counts_same p ∙ has.counted p) in (
               known,
               takes id (Some item.0),
               item.1,
@@ -347,6 +347,7 @@ module _ {T : Type 0} (meets : T → Type 0) (raise : ℕ) (opening : List (Opti
                         holds = refl;
                         carries = refl;
                         goes_on = history.1;
+                        each_returned = has.each_returned;
                       },
                       refl,
                       refl,
@@ -362,7 +363,7 @@ module _ {T : Type 0} (meets : T → Type 0) (raise : ℕ) (opening : List (Opti
             let same_bits : (i : ℕ)
             → item_bit words i ≡ item_bit page.words i =
             λ i. dite (ℕ_discrete i id) (λ same. rw same (turned.here ∙ sym out)) (turned.others i) in
-            let step = after_load raise opening page has user me.0 at here me.0.loads (me.0.tries + 1) in
+            let step = after_load meets raise opening page has user me.0 at here me.0.loads (me.0.tries + 1) in
             let is_now = step.0.acting here in (
               known,
               keeps,
@@ -370,7 +371,7 @@ module _ {T : Type 0} (meets : T → Type 0) (raise : ℕ) (opening : List (Opti
               record {
                 is_page = keeps_item meets page words user me.0 known is turned.same_count same_bits at
                     (λ i holds. holds);
-                history = saw_history raise opening page words user known has same_bits counts_same step.0;
+                history = saw_history meets raise opening page words user known has same_bits counts_same step.0;
                 have_met = met_same page.views user me.0 known at refl refl refl kept.have_met;
               },
               (
@@ -380,7 +381,7 @@ module _ {T : Type 0} (meets : T → Type 0) (raise : ℕ) (opening : List (Opti
                     Misses (32 * place + i) me (known, me.1)) (lacks_one operand bit i inside lacks lacks_i) record {
                       holds_same = refl;
                       carries_same = refl;
-                      was_out = clear_out raise opening page has me.0.opening is_now.same_opening place bit within
+                      was_out = clear_out meets raise opening page has me.0.opening is_now.same_opening place bit within
                           zero_bit;
                       loads_same = refl;
                       one_more = refl;
@@ -391,7 +392,7 @@ module _ {T : Type 0} (meets : T → Type 0) (raise : ℕ) (opening : List (Opti
       ]
 
   -- what each word counts after a return
-  counted_after : (page : State (Option T) (UserView T)) (has : HasHistory raise opening page) (user id new : ℕ)
+  counted_after : (page : State (Option T) (UserView T)) (has : HasHistory meets raise opening page) (user id new : ℕ)
       (value : T)
       → id / 32 < length page.words → Raises (get_or page.words (id / 32) 0) (id % 32) raise new → (p : ℕ)
       → ((get_or (set page.words (id / 32) new) p 0) / 2 ^ 32)
@@ -412,15 +413,15 @@ module _ {T : Type 0} (meets : T → Type 0) (raise : ℕ) (opening : List (Opti
 
   pub gives_back : (slots user bit operand id : ℕ) (out me : User T) (value : T) → id < slots → bit < 2 ^ 32
       → raise ≤ 1 → operand ≡ raise * 2 ^ 32 + bit
-      → SetsBit 0 (id % 32) bit → out.0.held ≡ Some id → out.0.gone ≡ false → out.1 ≡ (id, None) ∷ []
+      → SetsBit 0 (id % 32) bit → out.0.held ≡ Some id → out.0.retired ≡ false → out.1 ≡ (id, None) ∷ []
       → me ≡ (out.0, (id, Some value) ∷ rest out.1) → meets value
       → Allows (IsKept meets raise opening) slots user me (id / 32) (λ word. (word + operand) % 2 ^ 64)
-      (λ _. GivesBack me)
+      (λ _. GivesBack meets me)
   gives_back slots user added operand id out me value within small once is_sum sets holds here carries moved met =
       let is_me : me ≡ (out.0, (id, Some value) ∷ []) =
       moved ∙ ap (λ (carried : List (ℕ × Option T)). (out.0, (id, Some value) ∷ rest carried)) carries in
       subst (λ me. Allows (IsKept meets raise opening) slots user me (id / 32) (λ word.
-      (word + operand) % 2 ^ 64) (λ _. GivesBack me)) (sym is_me) (λ page kept places at fits.
+      (word + operand) % 2 ^ 64) (λ _. GivesBack meets me)) (sym is_me) (λ page kept places at fits.
       let is = kept.is_page in
       let has = kept.history in
       let place : ℕ = id / 32 in
@@ -433,7 +434,7 @@ module _ {T : Type 0} (meets : T → Type 0) (raise : ℕ) (opening : List (Opti
       let clear : bit_at word bit ≡ 0 = (is.held_is_out user id (out.0, at, holds)).1 in
       let operation : Operation T = Return out.0.user id value in
       let may : MayFollow opening has.operations operation =
-      (has.out_lies id clear, held_now raise opening page has user out.0 at here ∙ holds) in
+      (has.out_lies id clear, held_now meets raise opening page has user out.0 at here ∙ holds) in
       let raised : Raises word bit raise new = subst (λ o. Raises word bit raise ((word + o) % 2 ^ 64)) (sym is_sum)
       (raises word added bit raise (omega arith) small once fits sets clear) in
       let turned : Turns page.words id 1 words =
@@ -441,9 +442,9 @@ module _ {T : Type 0} (meets : T → Type 0) (raise : ℕ) (opening : List (Opti
       (turns page.words place bit 1 new (omega arith) below raised.set raised.others) in
       let known : UserView T = acted out.0 has.operations operation out.0.tries in
       let inside : id < length page.homes = omega arith in
-      let history = acts_history raise opening page has user out.0 at here words 1 (some (Some value)) operation
+      let history = acts_history meets raise opening page has user out.0 at here words 1 (some (Some value)) operation
       out.0.tries
-      refl may turned (λ _ found home. some-injective (Some value) (Some found)
+      refl may (met, has.each_returned) turned (λ _ found home. some-injective (Some value) (Some found)
       (some-injective (some (Some value)) (some (Some found))
       (sym (set_here page.homes id (some (Some value)) inside) ∙ home))) (λ one. absurd (omega arith))
       (counted_after page has out.0.user id new value below raised) in (
@@ -458,6 +459,7 @@ module _ {T : Type 0} (meets : T → Type 0) (raise : ℕ) (opening : List (Opti
         (
           refl,
           refl,
+          (met, has.each_returned),
           λ i found holds_i carries_i.
               let same_id : id ≡ i = cc in
               let same : Some value ≡ Some found =

@@ -8,42 +8,42 @@ use Rattle.pool_parts.specs.declared.page.history.Operation.TheVariants.{Return}
 use mathlib.Core.Option.{some}
 use lib.ListN.{get_elem?}
 use Rattle.pool_parts.specs.declared.page.user_view.UserView.{UserView}
-use Rattle.pool_parts.specs.Ledger.{operations_of, IsPrefixOf}
+use Rattle.pool_parts.specs.Ledger.{operations_of, IsPrefixOf, EachReturned}
 use Rattle.pool_parts.specs.Item.{new_user}
 use Rattle.pool_parts.specs.PageRule.{User, GoesOn, TakesOne, Misses, Loads}
 
 module _ {T : Type 0} where
   -- a user that was told what another knew
   abbrev pub told_of : UserView T → UserView T → UserView T
-  told_of old other = record old { told = other.operations; met = other.met }
+  told_of old other = record old { merged = other.operations; met = other.met }
 
   -- who only remembers what another knew
   abbrev pub witness_of : UserView T → UserView T
-  witness_of known = record (new_user known.opening 0) { operations = known.operations; gone = true }
+  witness_of known = record (new_user known.opening 0) { operations = known.operations; retired = true }
 
   -- a user that has gone
   abbrev pub gone_view : UserView T
-  gone_view = record (new_user [] 0) { gone = true }
+  gone_view = record (new_user [] 0) { retired = true }
 
   -- what introduces a user to another
   abbrev pub introduction_of : UserView T → UserView T
   introduction_of known =
       record (new_user known.opening 0) {
-        operations = known.told;
-        gone = true;
+        operations = known.merged;
+        retired = true;
         met = Some
             (known.user, known.meetings);
       }
 
   -- a user to whom another was introduced
   abbrev pub introduced_to : UserView T → UserView T → UserView T
-  introduced_to known other = record other { told = known.told; met = Some (known.user, known.meetings) }
+  introduced_to known other = record other { merged = known.merged; met = Some (known.user, known.meetings) }
 
   -- who was introduced to this user is there, and has met no less often than it said, unless it has gone
   abbrev pub HasMet : List (UserView T) → UserView T → Type 0
   HasMet views known =
       (other count : ℕ) → known.met ≡ Some (other, count)
-      → (there : UserView T) × (get_elem? views other ≡ some there) × (there.gone ≡ false → count ≤ there.meetings)
+      → (there : UserView T) × (get_elem? views other ≡ some there) × (there.retired ≡ false → count ≤ there.meetings)
 
   -- so it is of each user
   abbrev pub AllHaveMet : List (UserView T) → Type 0
@@ -59,9 +59,9 @@ module _ {T : Type 0} where
       → Misses (32 * place + bit) old new)
 
   -- a return: the user holds nothing any more, and the value that it had taken last is home
-  abbrev pub GivesBack : User T → User T → Type 0
-  GivesBack old new =
-      (new.0.held ≡ None) × (new.1 ≡ rest old.1)
+  abbrev pub GivesBack : (T → Type 0) → User T → User T → Type 0
+  GivesBack meets old new =
+      (new.0.held ≡ None) × (new.1 ≡ rest old.1) × EachReturned meets new.0.operations
       × ((id : ℕ) (value : T) → old.0.held ≡ Some id → old.1 ≡ (id, Some value) ∷ []
       → GoesOn (Return new.0.user id value ∷ []) old.0 new.0)
 
@@ -71,7 +71,7 @@ module _ {T : Type 0} where
     pub same_opening : start.opening ≡ known.opening
     pub own_before : operations_of known.user known.operations ≡ known.own
     pub own_same : start.own ≡ known.own
-    pub from_now : start.since ≡ start.operations
+    pub from_now : start.at_load ≡ start.operations
     pub after_known : IsPrefixOf known.operations start.operations
 
   pub starts_from : (place word : ℕ) (old new : User T) → Loads place old word new → StartsFrom old.0 new.0

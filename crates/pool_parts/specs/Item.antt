@@ -4,7 +4,7 @@ use Rattle.std.specs.Coded.{Coded, Coded-set, coded_ℕ, coded_option, coded_lis
 use Rattle.atomic_table.specs.Seated.{TableId, table_id_coded}
 use Rattle.pool_parts.specs.declared.page.history.Operation.TheVariants.{Pull}
 use Rattle.pool_parts.specs.declared.page.user_view.UserView.{UserView}
-use Rattle.pool_parts.specs.Ledger.{History, operations_of, IsLegal, WasOutBetween}
+use Rattle.pool_parts.specs.Ledger.{History, operations_of, IsLegal, EachReturned, WasOutBetween}
 use Rattle.pool_parts.specs.declared.page.word.TheConstants.{PAGE_ITEMS}
 
 -- so many values, by number, each of which meets the condition
@@ -41,12 +41,7 @@ pub record SeenView (T : Type 0) : Type 0 where
 abbrev pub SawEachOut : {T : Type 0} → SeenView T → Type 0
 SawEachOut seen =
     ∥ ((id : ℕ) → id < seen.page.slots
-    → WasOutBetween seen.known.opening seen.known.since seen.known.operations id) ∥₁
-
--- what a pulled value shows that has no number: the borrow or the owner of its pool, and the value
-pub record ValueView (P T : Type 0) : Type 0 where
-  pub pool : P
-  pub value : T
+    → WasOutBetween seen.known.opening seen.known.at_load seen.known.operations id) ∥₁
 
 -- what a pulled value of a pool with one table shows: the borrow or the owner of the pool, its item, the value, and
 -- what its user knows
@@ -65,9 +60,9 @@ module _ {T : Type 0} where
         user = user;
         opening = opening;
         operations = [];
-        since = [];
-        told = [];
-        gone = false;
+        at_load = [];
+        merged = [];
+        retired = false;
         own = [];
         loads = 0;
         tries = 0;
@@ -75,10 +70,11 @@ module _ {T : Type 0} where
         meetings = 0;
       }
 
-  -- an item of a page, with a value that meets the condition
+  -- an item of a page, with a value that meets the condition, as did each that was returned before
   pub record IsPageItem (meets : T → Type 0) (item : Item T) : Type 0 where
     pub in_page : item.id < PAGE_ITEMS
     pub meets_condition : meets item.value
+    pub each_returned : EachReturned meets item.history
 
   -- a pull of this page, or of this fixed pool, gave this item to a user that had known this before
   pub record IsPulled (page : TableId) (before : UserView T) (item : Item T) : Type 0 where

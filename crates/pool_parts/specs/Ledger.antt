@@ -83,6 +83,12 @@ module _ {T : Type 0} where
       (place : History T) × IsPrefixOf from place × IsPrefixOf place to
       × ((id : ℕ) → id < count → value_at opening place id ≡ None)
 
+  -- each value with which a number was returned meets the condition
+  abbrev pub EachReturned : (T → Type 0) → History T → Type 0
+  EachReturned meets [] = ⊤
+  EachReturned meets (Pull user id value ∷ before) = EachReturned meets before
+  EachReturned meets (Return user id value ∷ before) = meets value × EachReturned meets before
+
   -- how many returns there are of the numbers that pass a test
   abbrev pub returns_among : (ℕ → Bool) → History T → ℕ
   returns_among passes [] = 0

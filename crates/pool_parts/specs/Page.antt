@@ -29,17 +29,19 @@ pub same_opened : {T : Type 0} → Coded T → (a b : PageView T) → IsProp (a 
 same_opened code = Coded-set (page_coded code)
 
 module _ {T K : Type 0} where
+  -- what contracts see of a page
+  abbrev pub page_view : Page T K → PageView T
+  page_view page =
+      let table = page.items.table.shared in
+      record { identity = table.table_id; opening = table.key.values.value.items }
+
   -- which page it is
   abbrev pub page_identity : Page T K → TableId
-  page_identity page = page.items.table.shared.table_id
+  page_identity page = (page_view page).identity
 
   -- the values that the page opened with, by id
   abbrev pub page_opening : Page T K → List (Option T)
-  page_opening page = page.items.table.shared.key.values.value.items
-
-  -- what contracts see of a page
-  abbrev pub page_view : Page T K → PageView T
-  page_view page = record { identity = page_identity page; opening = page_opening page }
+  page_opening page = (page_view page).opening
 
 module _ {T : Type 0} where
   -- what the user of a seat knows
@@ -99,21 +101,14 @@ module _ {T : Type 0} where
     pub returned : IsReturned (record item { value = left }) note
 
   -- the note knows more: what it knew, and what the witness knew, are prefixes of its history
-  pub record HasLearned (old : PageNote T) (told : Witness T) (new : PageNote T) : Type 0 where
+  pub record HasLearned (old : PageNote T) (witness : Witness T) (new : PageNote T) : Type 0 where
     pub of_page : new.seat.table_id ≡ old.seat.table_id
     pub same_user : (view_of new.seat).user ≡ (view_of old.seat).user
     pub same_opening : (view_of new.seat).opening ≡ (view_of old.seat).opening
     pub legal : IsLegal (view_of new.seat).opening (view_of new.seat).operations
     pub from_own : IsPrefixOf (view_of old.seat).operations (view_of new.seat).operations
-    pub from_told : IsPrefixOf (view_of told.seat).operations (view_of new.seat).operations
+    pub from_told : IsPrefixOf (view_of witness.seat).operations (view_of new.seat).operations
     -- its user did nothing
     pub same_operations : operations_of (view_of new.seat).user (view_of new.seat).operations
         ≡ operations_of (view_of old.seat).user
         (view_of old.seat).operations
-
--- an item whose place has a value or none was returned, with exactly what its pool's reset left of its value
-pub record IsBroughtBack {T : Type 0} (leaves : T → T → Type 0) (place : Item (Option T)) (value : T)
-    (note : PageNote (Option T)) : Type 0 where
-  pub left : T
-  pub by_reset : leaves value left
-  pub returned : IsReturned (record place { value = Some left }) note

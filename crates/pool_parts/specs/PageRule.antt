@@ -8,7 +8,7 @@ use Rattle.std.specs.Int.{bit_at}
 use Rattle.atomic_table.specs.Table.{State, Me}
 use Rattle.pool_parts.specs.declared.page.history.Operation.TheVariants.{Pull}
 use Rattle.pool_parts.specs.declared.page.user_view.UserView.{UserView}
-use Rattle.pool_parts.specs.Ledger.{History, operations_of, held_id, value_at, IsLegal, IsPrefixOf, WasOutBetween, returns_among}
+use Rattle.pool_parts.specs.Ledger.{History, operations_of, held_id, value_at, IsLegal, IsPrefixOf, WasOutBetween, EachReturned, returns_among}
 
 -- the bit of an item, by the item's number
 abbrev pub item_bit : List ℕ → ℕ → ℕ
@@ -33,7 +33,7 @@ module _ {T : Type 0} where
   -- what a user knows of the page's history is so
   pub record IsSound (known : UserView T) : Type 0 where
     pub legal : IsLegal known.opening known.operations
-    pub since_load : IsPrefixOf known.since known.operations
+    pub since_load : IsPrefixOf known.at_load known.operations
     pub own_operations : operations_of known.user known.operations ≡ known.own
     pub holds : known.held ≡ held_id known.own
 
@@ -48,8 +48,8 @@ module _ {T : Type 0} where
   -- what each user knows are prefixes of the page's operations up to now, and so it is of each user that hasn't gone
   pub record Knows (opening : List (Option T)) (operations : History T) (user : ℕ) (known : UserView T) : Type 0 where
     pub seen : IsPrefixOf known.operations operations
-    pub told : IsPrefixOf known.told operations
-    pub acting : known.gone ≡ false → IsInformed opening operations user known
+    pub merged : IsPrefixOf known.merged operations
+    pub acting : known.retired ≡ false → IsInformed opening operations user known
 
   -- what holds between any two steps, of the word, the homes and who holds what
   pub record IsPage (meets : T → Type 0) (page : State (Option T) (UserView T)) : Type 0 where
@@ -63,9 +63,11 @@ module _ {T : Type 0} where
 
   -- the page stands where one legal history of its users' operations has led, of which each user knows a prefix; a
   -- return raises its word's count by so much
-  pub record HasHistory (raise : ℕ) (opening : List (Option T)) (page : State (Option T) (UserView T)) : Type 0 where
+  pub record HasHistory (meets : T → Type 0) (raise : ℕ) (opening : List (Option T))
+      (page : State (Option T) (UserView T)) : Type 0 where
     pub operations : History T
     pub legal : IsLegal opening operations
+    pub each_returned : EachReturned meets operations
     pub free_lies : (id : ℕ) → item_bit page.words id ≡ 1 → (value : T) → get_elem? page.homes id
         ≡ some (some (Some value))
         → value_at opening operations id ≡ Some value
@@ -81,19 +83,19 @@ module _ {T : Type 0} where
   pub record IsKept (meets : T → Type 0) (raise : ℕ) (opening : List (Option T))
       (page : State (Option T) (UserView T)) : Type 0 where
     pub is_page : IsPage meets page
-    pub history : HasHistory raise opening page
+    pub history : HasHistory meets raise opening page
     -- who was introduced to a user is there, and has met no less often than it said, unless it has gone
     pub have_met : (user : ℕ) (known : UserView T) → get_elem? page.views user ≡ some known
         → (other count : ℕ) → known.met ≡ Some (other, count)
         → (there : UserView T) × (get_elem? page.views other ≡ some there)
-        × (there.gone ≡ false → count ≤ there.meetings)
+        × (there.retired ≡ false → count ≤ there.meetings)
 
   -- a user went on: the page's history is longer by what others did, and then by what it did itself
   pub record GoesOn (made : History T) (old new : UserView T) : Type 0 where
-    pub here : new.gone ≡ false
+    pub here : new.retired ≡ false
     pub same_user : new.user ≡ old.user
     pub same_opening : new.opening ≡ old.opening
-    pub same_since : new.since ≡ old.since
+    pub same_since : new.at_load ≡ old.at_load
     pub operations : (others : History T) × (new.operations ≡ made ++ (others ++ old.operations))
     pub own_before : operations_of old.user old.operations ≡ old.own
     pub own : new.own ≡ made ++ old.own
@@ -107,7 +109,7 @@ module _ {T : Type 0} where
   pub record MayTake (user : User T) : Type 0 where
     pub carries_none : user.1 ≡ []
     pub holds_none : user.0.held ≡ None
-    pub here : user.0.gone ≡ false
+    pub here : user.0.retired ≡ false
     pub sound : IsSound user.0
 
   -- the user has taken one item of a pool with so many; it carries the item's value, or nothing once that has moved out
@@ -118,6 +120,7 @@ module _ {T : Type 0} where
     pub holds : new.0.held ≡ Some id
     pub carries : new.1 ≡ (id, carried) ∷ old.1
     pub goes_on : GoesOn (Pull new.0.user id value ∷ []) old.0 new.0
+    pub each_returned : EachReturned meets new.0.operations
 
   -- the item was out, by one try more: the user knows it now
   pub record Misses (id : ℕ) (old new : User T) : Type 0 where
@@ -133,14 +136,14 @@ module _ {T : Type 0} where
   pub record Loads (place : ℕ) (old : User T) (word : ℕ) (new : User T) : Type 0 where
     pub holds_same : new.0.held ≡ old.0.held
     pub carries_same : new.1 ≡ old.1
-    pub here : new.0.gone ≡ false
+    pub here : new.0.retired ≡ false
     pub same_user : new.0.user ≡ old.0.user
     pub same_opening : new.0.opening ≡ old.0.opening
     pub own_before : operations_of old.0.user old.0.operations ≡ old.0.own
     pub own_same : new.0.own ≡ old.0.own
-    pub from_now : new.0.since ≡ new.0.operations
+    pub from_now : new.0.at_load ≡ new.0.operations
     pub after_known : IsPrefixOf old.0.operations new.0.operations
-    pub after_told : IsPrefixOf old.0.told new.0.operations
+    pub after_told : IsPrefixOf old.0.merged new.0.operations
     pub loads : new.0.loads ≡ old.0.loads + 1
     pub tries : new.0.tries ≡ old.0.tries
     pub sound : IsSound new.0
@@ -163,12 +166,12 @@ module _ {T : Type 0} where
   -- a load by a user that was introduced to: it is told the history so far, in which it has done what it did
   pub record Meets (old new : User T) : Type 0 where
     -- it holds what it did and has done what it did: it has only heard of others
-    pub knows : new.0 ≡ record old.0 { told = new.0.told; met = new.0.met; meetings = new.0.meetings }
+    pub knows : new.0 ≡ record old.0 { merged = new.0.merged; met = new.0.met; meetings = new.0.meetings }
     pub carries_same : new.1 ≡ old.1
     pub once_more : new.0.meetings ≡ old.0.meetings + 1
-    pub legal : IsLegal old.0.opening new.0.told
-    pub after_told : IsPrefixOf old.0.told new.0.told
-    pub own : operations_of old.0.user new.0.told ≡ old.0.own
+    pub legal : IsLegal old.0.opening new.0.merged
+    pub after_told : IsPrefixOf old.0.merged new.0.merged
+    pub own : operations_of old.0.user new.0.merged ≡ old.0.own
     pub holds : old.0.held ≡ held_id old.0.own
     -- where it was introduced to itself, it has met no less often than it said
     pub apart : (count : ℕ) → old.0.met ≡ Some (old.0.user, count) → count ≤ old.0.meetings

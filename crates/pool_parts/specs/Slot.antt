@@ -19,8 +19,8 @@ module _ {T : Type 0} where
     pub same_user : known.user ≡ before.user
     pub same_opening : known.opening ≡ before.opening
     pub legal : IsLegal before.opening known.operations
-    pub after_known : IsPrefixOf before.operations known.since
-    pub goes_on : IsPrefixOf known.since known.operations
+    pub after_known : IsPrefixOf before.operations known.at_load
+    pub goes_on : IsPrefixOf known.at_load known.operations
 
   -- each of the items of this page or fixed pool, which has so many, was seen in use in one call, by a user that had
   -- known this before
@@ -29,7 +29,7 @@ module _ {T : Type 0} where
     pub knows : KnowsMore before seen.known
     -- each item was out at some place between the call's first load and now
     pub each_was_out : (id : ℕ) → id < count
-        → WasOutBetween before.opening seen.known.since seen.known.operations id
+        → WasOutBetween before.opening seen.known.at_load seen.known.operations id
 
   -- each of the items of this page was seen in use in one call
   abbrev pub IsFullPage : TableId → SeenView T → Type 0

@@ -68,11 +68,12 @@ pub trait Reset<T, K: Clean<T>>: Drop {
         ensures leaves { leaves self.now value.old value.new }
         ensures meets { K.meets value.new };
 
-    /// Makes a value ready to be kept, as `reset`, or rejects it by `None`. By default it rejects
-    /// none.
+    /// Makes a value ready to be kept, or rejects it by `None`. By default it calls `reset`, and
+    /// rejects none.
     ///
-    /// The lazy pool calls it at each return. The place of a rejected value is empty, and a later
-    /// pull makes another value. The linear and the fixed pool call `reset`.
+    /// The lazy and the stack pools call it at each return, and don't keep a rejected value. Its
+    /// place in a lazy pool is empty, and a later pull makes another value. The linear and the fixed
+    /// pools call `reset`.
     ///
     /// # Examples
     ///

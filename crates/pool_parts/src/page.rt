@@ -17,17 +17,17 @@
 //! single bits.
 
 mod full_seen;
-pub mod history;
-pub mod holding;
-pub mod items;
+mod history;
+mod holding;
+mod items;
 mod meeting;
 mod note;
 mod owned_slot;
-pub mod rule;
+mod rule;
 mod shared_page;
 mod slot;
 mod steps;
-pub mod user_view;
+mod user_view;
 mod word;
 
 pub use full_seen::{Allocated, FullSeen, PageAnswer, PullPass};
@@ -36,3 +36,11 @@ pub use owned_slot::OwnedSlot;
 pub use shared_page::Page;
 pub use slot::PageSlot;
 pub use word::{PAGE_ITEMS, PageId, has_bit, take_least, with_bit, without_bit};
+
+/// What the crates of the pools stand on besides: items in use, the items of a page or of a fixed
+/// pool, and what their users know. `lockfree_object_pool` doesn't export it.
+pub mod inside {
+    pub use super::holding::Holding;
+    pub use super::items::{Items, TakenValue};
+    pub use super::user_view::{UserSeat, UserView};
+}

@@ -34,6 +34,9 @@ pub enum PullError {
     /// Each item that the pull could have taken was seen in use in this call.
     #[error("the pool is at its limit")]
     Limit = 3,
+    /// The pool was closed. Only a lazy pool can be.
+    #[error("the pool is closed")]
+    Closed = 4,
 }
 
 impl From<AllocError> for PullError {
@@ -63,6 +66,7 @@ impl From<PullError> for io::Error {
             PullError::Limit => {
                 io::Error::new(ErrorKind::ResourceBusy, "the pool is at its limit")
             }
+            PullError::Closed => io::Error::new(ErrorKind::BrokenPipe, "the pool is closed"),
         }
     }
 }

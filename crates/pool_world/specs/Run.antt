@@ -7,7 +7,7 @@ use Rattle.pool_parts.specs.declared.page.history.Operation.{Operation}
 use Rattle.pool_parts.specs.declared.page.history.Operation.TheVariants.{Pull, Return}
 use Rattle.pool_parts.specs.declared.page.word.TheConstants.{PAGE_ITEMS}
 use Rattle.pool_parts.specs.declared.pull_error.PullError.{PullError}
-use Rattle.pool_parts.specs.declared.pull_error.PullError.TheVariants.{Memory, Init, Limit}
+use Rattle.pool_parts.specs.declared.pull_error.PullError.TheVariants.{Memory, Init, Limit, Closed}
 use Rattle.pool_parts.specs.Ledger.{History, user_of, operations_of, held_id, value_at, MayFollow}
 use Rattle.pool_world.specs.Pool.{Pool, Out, place_of, IsGrowth}
 
@@ -116,6 +116,7 @@ module _ {T : Type 0} (Leaves : T → T → Type 0) (limit : Option ℕ) (first 
   MayRefuse acts a Limit = (limit ≡ Some (pages_of acts)) × SawPagesTaken first acts a (pages_of acts)
   MayRefuse acts a Memory = ⊤
   MayRefuse acts a Init = ⊤
+  MayRefuse acts a Closed = ⊥
 
   -- the act may come after these: an agent opens once and before all else, and writes where it holds
   -- a number. It pulls while it looks, and returns what reset leaves of its value, both as the ledger

@@ -1,1 +1,3 @@
 pub mod GuardShared
+pub mod Notes
+pub mod StackShared

@@ -1,1 +1,3 @@
+pub mod Sections
+pub mod StackHistory
 pub mod StackPool

@@ -3,10 +3,11 @@ use mir.Syntax.{named}
 use Rattle.std.specs.Prelude.{[]}
 use Rattle.std.specs.Borrow.{Lends, Fml, RattleType, MutBor}
 use Rattle.atomic_table.specs.Seated.{TableId}
-use Rattle.pool_parts.specs.Item.{ValueView}
 use Rattle.stack_pools.specs.contracts.spin_lock.SpinLockGuard as Guard
 use Rattle.stack_pools.specs.contracts.stack_reusable.StackReusable as Reusable
+use Rattle.stack_pools.specs.StackHistory.{StackItemView}
 use Rattle.stack_pools.specs.declared.spin_lock.SpinLockGuard.{SpinLockGuard}
+use Rattle.stack_pools.specs.declared.stack_reusable.SharedStackPool as SharedStackPool
 use Rattle.stack_pools.specs.declared.stack_object_pool.StackObjectPool.{StackObjectPool}
 
 module _ {T I R K F : Type 0} where
@@ -18,11 +19,15 @@ module _ {T I R K F : Type 0} where
   abbrev pub stack_reset : StackObjectPool T I R K F → R
   stack_reset pool = pool.reset
 
-module _ (T P W : RattleType) where
+  -- the list in which the pool keeps its values
+  abbrev pub stack_list : StackObjectPool T I R K F → F
+  stack_list pool = pool.kept
+
+module _ (T P W : RattleType) (pool : SharedStackPool.Ghosts P.Denot T.Denot) where
   -- once the loan of its value ends, the reusable has the value that was written last
-  abbrev pub LendsStackValue : MutBor (ValueView P.Denot T.Denot) → MutBor T.Denot → Fml
+  abbrev pub LendsStackValue : MutBor (StackItemView P.Denot T.Denot) → MutBor T.Denot → Fml
   LendsStackValue reusable loan =
-      Lends (Reusable.the_row T P W) T reusable loan (λ value. record reusable.now { value = value })
+      Lends (Reusable.the_row T P W pool) T reusable loan (λ value. record reusable.now { value = value })
 
 -- the lock whose guard it is
 abbrev pub lock_of : {T : Type 0} → SpinLockGuard T → TableId

@@ -5,10 +5,13 @@
 #![tactic(auto)]
 
 pub mod free_list;
+pub mod kept_stack;
 pub mod mutex_object_pool;
+pub mod operation;
 pub mod recycling;
 pub mod spin_lock;
 pub mod spin_lock_object_pool;
+pub mod stack_note;
 pub mod stack_object_pool;
 pub mod stack_reusable;
 

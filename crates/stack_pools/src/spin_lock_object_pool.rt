@@ -1,12 +1,12 @@
 //! A pool over a stack of kept values under a spin lock.
 //!
 //! It isn't lock free: a thread that stops while it has the lock keeps all others waiting.
-ghost use Rattle.std.specs.Prelude.{◌≡◌, IfOk, IfErr, ⊤};
+ghost use Rattle.std.specs.Prelude.{◌≡◌, ◌⊎◌, Some, IfOk, IfErr, ⊤};
 
-use crate::spin_lock::SpinLock;
+use crate::kept_stack::KeptStack;
+use crate::stack_note::StackNote;
 use crate::stack_object_pool::StackObjectPool;
 use crate::stack_reusable::StackReusable;
-use kept_values::stack::Stack;
 use pool_parts::PullError;
 use pool_parts::clean::{AnyValue, Clean};
 use pool_parts::closures::{Init, Reset};
@@ -31,7 +31,7 @@ pub type SpinLockObjectPool<T, I, R, K = AnyValue> = StackObjectPool<
     I,
     R,
     K,
-    SpinLock<Stack<T, MadeOrReset<I, R, K>>>,
+    KeptStack<T, MadeOrReset<I, R, K>>,
 >;
 
 /// A value that was pulled from a spin lock pool or attached to it, under a borrow of it.
@@ -68,7 +68,8 @@ pub type SpinLockOwnedReusable<T, I, R, K, W> = StackReusable<
 >;
 
 impl<T: Drop, I: Init<T, K>, R: Reset<T, K>, K: Clean<T>> SpinLockObjectPool<T, I, R, K> {
-    ghost use Rattle.stack_pools.specs.StackPool.{stack_init, stack_reset};
+    ghost use Rattle.stack_pools.specs.StackHistory.{IsNoteOf, GoesOn};
+    ghost use Rattle.stack_pools.specs.StackPool.{stack_init, stack_reset, stack_list};
     ghost use Rattle.pool_parts.specs.Answers.{Refuses};
 
     /// Creates a pool that keeps nothing yet.
@@ -91,10 +92,29 @@ impl<T: Drop, I: Init<T, K>, R: Reset<T, K>, K: Clean<T>> SpinLockObjectPool<T, 
         ensures reset { IfOk result (λ pool. stack_reset pool ≡ reset) }
         ensures refused { IfErr result (Refuses ⊤ ⊥ ⊥) }
     {
-        match SpinLock::new(alloc, Stack::new()) {
-            Ok(kept) => Ok(StackObjectPool::over(alloc, init, reset, kept)),
-            Err(_) => Err(PullError::Memory),
+        match KeptStack::new(alloc) {
+            Some(kept) => Ok(StackObjectPool::over(alloc, init, reset, kept)),
+            None => Err(PullError::Memory),
         }
+    }
+
+    /// Adds to what one note knows what another knows: of the two histories one is a prefix of the
+    /// other. It costs two loads.
+    ///
+    /// # Examples
+    ///
+    /// ```rust
+    /// let both = pool.learn(first, second); // comes after what both threads know
+    /// ```
+    pub fn learn(&self, note: StackNote<T>, told: StackNote<T>) -> StackNote<T>
+        requires of { IsNoteOf (Some (stack_list self.now)) note }
+        requires told_of { IsNoteOf (Some (stack_list self.now)) told }
+        ensures of { IsNoteOf (Some (stack_list self.now)) result }
+        ensures after { GoesOn note result }
+        ensures after_told { GoesOn told result }
+        ensures one { GoesOn note told ⊎ GoesOn told note }
+    {
+        self.kept.learn(note, told)
     }
 }
 

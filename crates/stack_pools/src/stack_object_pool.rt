@@ -2,11 +2,13 @@
 //!
 //! A pull takes the value that was returned last, or makes one if none is kept. Pulls and returns
 //! wait for the lock.
-ghost use Rattle.std.specs.Prelude.{◌≡◌, None, IfOk, IfErr, ⊤};
+ghost use Rattle.std.specs.Prelude.{◌≡◌, None, Some, IfOk, IfErr, IfSome, MatchOption, ⊤};
 ghost use Rattle.std.specs.Arc.{arc_value};
+ghost use Rattle.stack_pools.specs.StackHistory.{IsNoteOf, GoesOn, TookLast, FoundNone, IsPull, IsGivenBack};
 
 use crate::free_list::FreeList;
-use crate::stack_reusable::StackReusable;
+use crate::stack_note::StackNote;
+use crate::stack_reusable::{PulledValue, StackReusable};
 use kept_values::stack::Room;
 use pool_parts::PullError;
 use pool_parts::clean::Clean;
@@ -38,7 +40,7 @@ pub struct StackObjectPool<
     alloc: Global,
     init: I,
     reset: R,
-    kept: F,
+    pub(crate) kept: F,
     marker: PhantomData<(Mutex<T>, Mutex<K>)>,
 }
 
@@ -65,7 +67,7 @@ impl<
     F: FreeList<T, MadeOrReset<I, R, K>>,
 > StackObjectPool<T, I, R, K, F> {
     ghost use Rattle.pool_parts.specs.Answers.{IsMadeOrReset, Refuses};
-    ghost use Rattle.stack_pools.specs.StackPool.{stack_init, stack_reset};
+    ghost use Rattle.stack_pools.specs.StackPool.{stack_init, stack_reset, stack_list};
 
     /// Creates a pool over this list.
     pub(crate) fn over(alloc: Global, init: I, reset: R, kept: F) -> StackObjectPool<T, I, R, K, F>
@@ -81,8 +83,8 @@ impl<
         }
     }
 
-    /// Pulls the value that was returned last, or makes one if none is kept. `init` runs without
-    /// the lock.
+    /// Pulls the value that was kept last, or makes one if none is kept. `init` runs without the
+    /// lock.
     ///
     /// # Errors
     ///
@@ -94,18 +96,54 @@ impl<
         ensures pool { IfOk result (λ item. item.pool.now ≡ self.now) }
         ensures meets { IfOk result (λ item. K.meets item.value) }
         ensures made_or_reset { IfOk result (λ item. IsMadeOrReset I.answers R.leaves item.value) }
+        ensures pulled { IfOk result (λ item.
+            IsPull (λ made. I.answers (stack_init self.now) (Some made)) item.value item.known) }
         ensures refused { IfErr result (Refuses ⊤ (I.answers (stack_init self.now) None) ⊥) }
     {
-        let (value, room) = self.item(rt)?;
-        Ok(StackReusable::in_room(self, *rt, room, value))
+        let (kept, note) = self.kept.take(rt);
+        let pulled = self.kept_or_made(kept, note)?;
+        Ok(StackReusable::pulled(self, *rt, pulled))
     }
 
-    /// Pulls a value as `pull` does. The reusable owns the pool with others: it becomes one more
-    /// owner before an item is taken.
+    /// Pulls a value after all that a note knows: the one that was kept last, or a new one if none
+    /// is kept.
     ///
     /// # Errors
     ///
-    /// As `pull`, and `Memory` if the pool can have no more owners.
+    /// `Memory` and `Init` if no value is kept. Then the note is dropped.
+    ///
+    /// # Examples
+    ///
+    /// ```rust
+    /// let note = pool.pull(&rt)?.give_back();
+    /// let item = pool.pull_after(&rt, note)?; // comes after all that the note knew
+    /// ```
+    pub fn pull_after<W: Wait + Copy>(
+        &self,
+        rt: &W,
+        note: StackNote<T>,
+    ) -> Result<StackReusable<T, &Self, W>, PullError>
+        requires { IsNoteOf (F.lock (stack_list self.now)) note }
+        ensures pool { IfOk result (λ item. item.pool.now ≡ self.now) }
+        ensures meets { IfOk result (λ item. K.meets item.value) }
+        ensures made_or_reset { IfOk result (λ item. IsMadeOrReset I.answers R.leaves item.value) }
+        ensures pulled { IfOk result (λ item.
+            IsPull (λ made. I.answers (stack_init self.now) (Some made)) item.value item.known) }
+        ensures after { IfOk result (λ item. GoesOn note item.known) }
+        ensures refused { IfErr result (Refuses ⊤ (I.answers (stack_init self.now) None) ⊥) }
+    {
+        let (kept, note) = self.kept.take_after(rt, note);
+        let pulled = self.kept_or_made(kept, note)?;
+        Ok(StackReusable::pulled(self, *rt, pulled))
+    }
+
+    /// Pulls the value that was kept last, or makes one if none is kept. The reusable owns the pool
+    /// with others: it becomes one more owner before an item is taken.
+    ///
+    /// # Errors
+    ///
+    /// `Memory` if the pool can have no more owners. Else only if no value is kept: `Memory` if
+    /// there is no memory for the room of its return, and `Init` if `init` returned `None`.
     pub fn pull_owned<W: Wait + Copy>(
         self: &Arc<Self>,
         rt: &W,
@@ -113,31 +151,52 @@ impl<
         ensures pool { IfOk result (λ item. arc_value item.pool ≡ arc_value self.now) }
         ensures meets { IfOk result (λ item. K.meets item.value) }
         ensures made_or_reset { IfOk result (λ item. IsMadeOrReset I.answers R.leaves item.value) }
+        ensures pulled { IfOk result (λ item.
+            IsPull (λ made. I.answers (stack_init (arc_value self.now)) (Some made))
+            item.value item.known) }
         ensures refused { IfErr result
             (Refuses ⊤ (I.answers (stack_init (arc_value self.now)) None) ⊥) }
     {
         let owner = Arc::try_clone(self)?;
-        let (value, room) = self.item(rt)?;
-        Ok(StackReusable::in_room(owner, *rt, room, value))
+        let (kept, note) = self.kept.take(rt);
+        let pulled = self.kept_or_made(kept, note)?;
+        Ok(StackReusable::pulled(owner, *rt, pulled))
     }
 
-    /// Returns a kept value with its room, or a new one of each.
+    /// Returns a kept value with its room, or a new one of each where the pull found none.
     #[inline(always)]
-    fn item<W: Wait>(&self, rt: &W) -> Result<(T, Room<T>), PullError>
-        ensures meets { IfOk result (λ item. K.meets item.0) }
-        ensures made_or_reset { IfOk result (λ item. IsMadeOrReset I.answers R.leaves item.0) }
+    fn kept_or_made(
+        &self,
+        kept: Option<(T, Room<T>)>,
+        note: StackNote<T>,
+    ) -> Result<PulledValue<T>, PullError>
+        requires of { IsNoteOf (F.lock (stack_list self.now)) note }
+        requires meets { IfSome kept (λ taken. K.meets taken.0) }
+        requires made_or_reset { IfSome kept (λ taken. IsMadeOrReset I.answers R.leaves taken.0) }
+        requires pulled { IfSome note (λ known.
+            MatchOption kept (FoundNone known.history)
+            (λ taken. TookLast known.history taken.0)) }
+        ensures note { IfOk result (λ pulled. pulled.note ≡ note) }
+        ensures meets { IfOk result (λ pulled. K.meets pulled.value) }
+        ensures made_or_reset { IfOk result (λ pulled.
+            IsMadeOrReset I.answers R.leaves pulled.value) }
+        ensures pulled { IfOk result (λ pulled.
+            IsPull (λ made. I.answers (stack_init self.now) (Some made)) pulled.value note) }
         ensures refused { IfErr result (Refuses ⊤ (I.answers (stack_init self.now) None) ⊥) }
     {
-        match self.kept.take(rt) {
-            Some(item) => Ok(item),
-            None => self.made(),
+        match kept {
+            Some((value, room)) => Ok(PulledValue { value, room, note }),
+            None => {
+                let (value, room) = self.made()?;
+                Ok(PulledValue { value, room, note })
+            }
         }
     }
 
     /// Makes a value and the room for its return.
     fn made(&self) -> Result<(T, Room<T>), PullError>
         ensures meets { IfOk result (λ item. K.meets item.0) }
-        ensures made_or_reset { IfOk result (λ item. IsMadeOrReset I.answers R.leaves item.0) }
+        ensures made { IfOk result (λ item. I.answers (stack_init self.now) (Some item.0)) }
         ensures refused { IfErr result (Refuses ⊤ (I.answers (stack_init self.now) None) ⊥) }
     {
         let room = self.room()?;
@@ -158,7 +217,7 @@ impl<
     {
         for _ in 0..count {
             let (value, room) = self.made()?;
-            self.kept.give(rt, room, value);
+            self.kept.give(rt, self.kept.note(), room, value);
         }
         Ok(())
     }
@@ -166,7 +225,7 @@ impl<
     /// Counts the values that are kept at this moment, up to `usize::MAX`. It counts them one by
     /// one under the lock. Other threads may have changed the number before it returns.
     pub fn kept<W: Wait>(&self, rt: &W) -> usize {
-        self.kept.count(rt)
+        self.kept.count(rt).0
     }
 
     /// Drops all values that are kept, and their rooms, without the lock. Items in use are returned
@@ -186,9 +245,31 @@ impl<
         Room::new(self.alloc)
     }
 
-    /// Resets a value and keeps it.
-    pub(crate) fn give<W: Wait>(&self, rt: &W, room: Room<T>, mut value: T) {
-        self.reset.reset(&mut value);
-        self.kept.give(rt, room, value);
+    /// Returns a note of what the pool's operations are at a moment of this call. It costs a load
+    /// at most.
+    pub fn note(&self) -> StackNote<T>
+        ensures { IsNoteOf (F.lock (stack_list self.now)) result }
+    {
+        self.kept.note()
+    }
+
+    /// Resets a value and keeps it. If the reset rejects it, it is dropped without the lock, and so
+    /// is its room.
+    pub(crate) fn give<W: Wait>(
+        &self,
+        rt: &W,
+        note: StackNote<T>,
+        room: Room<T>,
+        value: T,
+    ) -> StackNote<T>
+        requires { IsNoteOf (F.lock (stack_list self.now)) note }
+        ensures of { IsNoteOf (F.lock (stack_list self.now)) result }
+        ensures given_back { IsGivenBack (R.leaves (stack_reset self.now))
+            (R.rejects (stack_reset self.now)) value note result }
+    {
+        match self.reset.try_reset(value) {
+            Some(left) => self.kept.give(rt, note, room, left),
+            None => note,
+        }
     }
 }

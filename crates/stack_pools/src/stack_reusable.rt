@@ -1,8 +1,10 @@
 //! A value that was pulled from a stack pool or attached to it, with a borrow or an owner of the
 //! pool.
 ghost use Rattle.std.specs.Prelude.{◌≡◌, IfOk, IfErr, ⊤};
+ghost use Rattle.stack_pools.specs.StackHistory.{IsNoteOf, IsGivenBack};
 
 use crate::free_list::FreeList;
+use crate::stack_note::StackNote;
 use crate::stack_object_pool::StackObjectPool;
 use kept_values::stack::Room;
 use pool_parts::PullError;
@@ -16,7 +18,19 @@ use std::sync::{Arc, Wait};
 
 /// A stack pool as a reusable has it: by a borrow or with an owner.
 pub trait SharedStackPool<T>: Drop {
+    ghost use Rattle.std.specs.Prelude.{Option};
+    ghost use Rattle.atomic_table.specs.Seated.{TableId};
     ghost use Rattle.pool_parts.specs.Answers.{Refuses};
+    ghost use Rattle.stack_pools.specs.StackHistory.{IsNoteOf, IsGivenBack};
+
+    /// The lock under which its list lies, if that has a history.
+    ghost lock: { Self → Option TableId };
+
+    /// The values that its reset may leave: the old one, then the new one.
+    ghost leaves: { Self → T → T → Type 0 };
+
+    /// The values that its reset may reject.
+    ghost rejects: { Self → T → Type 0 };
 
     /// Makes a room for the return of a value.
     ///
@@ -26,8 +40,16 @@ pub trait SharedStackPool<T>: Drop {
     fn room(&self) -> Result<Room<T>, PullError>
         ensures refused { IfErr result (Refuses ⊤ ⊥ ⊥) };
 
-    /// Resets a value and keeps it. It takes no memory besides what the reset takes.
-    fn give<W: Wait>(&self, rt: &W, room: Room<T>, value: T);
+    /// Returns a note of what the pool's operations are at a moment of this call.
+    fn note(&self) -> StackNote<T>
+        ensures { IsNoteOf (lock self.now) result };
+
+    /// Resets a value and keeps it, after all that a note knows, or drops it if the reset rejects
+    /// it. It takes no memory besides what the reset takes.
+    fn give<W: Wait>(&self, rt: &W, note: StackNote<T>, room: Room<T>, value: T) -> StackNote<T>
+        requires { IsNoteOf (lock self.now) note }
+        ensures of { IsNoteOf (lock self.now) result }
+        ensures given_back { IsGivenBack (leaves self.now) (rejects self.now) value note result };
 }
 
 impl<
@@ -37,12 +59,29 @@ impl<
     K: Clean<T>,
     F: FreeList<T, MadeOrReset<I, R, K>>,
 > SharedStackPool<T> for &StackObjectPool<T, I, R, K, F> {
+    ghost use Rattle.stack_pools.specs.StackPool.{stack_reset, stack_list};
+
+    ghost lock = { λ pool. F.lock (stack_list pool.now) };
+
+    ghost leaves = { λ pool. R.leaves (stack_reset pool.now) };
+
+    ghost rejects = { λ pool. R.rejects (stack_reset pool.now) };
+
     fn room(&self) -> Result<Room<T>, PullError> {
         (**self).room()
     }
 
-    fn give<W: Wait>(&self, rt: &W, room: Room<T>, value: T) {
-        (**self).give(rt, room, value);
+    fn note(&self) -> StackNote<T> {
+        (**self).note()
+    }
+
+    fn give<W: Wait>(&self, rt: &W, note: StackNote<T>, room: Room<T>, value: T) -> StackNote<T>
+        requires { IsNoteOf (F.lock (stack_list self.now.now)) note }
+        ensures of { IsNoteOf (F.lock (stack_list self.now.now)) result }
+        ensures given_back { IsGivenBack (R.leaves (stack_reset self.now.now))
+            (R.rejects (stack_reset self.now.now)) value note result }
+    {
+        (**self).give(rt, note, room, value)
     }
 }
 
@@ -53,35 +92,72 @@ impl<
     K: Clean<T>,
     F: FreeList<T, MadeOrReset<I, R, K>>,
 > SharedStackPool<T> for Arc<StackObjectPool<T, I, R, K, F>> {
+    ghost use Rattle.std.specs.Arc.{arc_value};
+    ghost use Rattle.stack_pools.specs.StackPool.{stack_reset, stack_list};
+
+    ghost lock = { λ pool. F.lock (stack_list (arc_value pool)) };
+
+    ghost leaves = { λ pool. R.leaves (stack_reset (arc_value pool)) };
+
+    ghost rejects = { λ pool. R.rejects (stack_reset (arc_value pool)) };
+
     fn room(&self) -> Result<Room<T>, PullError> {
         (**self).room()
     }
 
-    fn give<W: Wait>(&self, rt: &W, room: Room<T>, value: T) {
-        (**self).give(rt, room, value);
+    fn note(&self) -> StackNote<T> {
+        (**self).note()
+    }
+
+    fn give<W: Wait>(&self, rt: &W, note: StackNote<T>, room: Room<T>, value: T) -> StackNote<T>
+        requires { IsNoteOf (F.lock (stack_list (arc_value self.now))) note }
+        ensures of { IsNoteOf (F.lock (stack_list (arc_value self.now))) result }
+        ensures given_back { IsGivenBack (R.leaves (stack_reset (arc_value self.now)))
+            (R.rejects (stack_reset (arc_value self.now))) value note result }
+    {
+        (**self).give(rt, note, room, value)
     }
 }
 
 /// The permission to wait for the lock of a pool, which a reusable keeps for its drop.
 ///
-/// Each permission that can be copied is one. A reusable requires no more of it, so none of its
-/// calls but the drop can wait.
-pub trait ReturnPermission<T, P>: Copy + Drop {
+/// Each permission that can be copied is one. A reusable requires no more of it, so only its return
+/// can wait.
+pub trait ReturnPermission<T, P: SharedStackPool<T>>: Copy + Drop {
+    ghost use Rattle.stack_pools.specs.StackHistory.{IsNoteOf, IsGivenBack};
+
     /// Returns a value to its pool.
-    fn give_to(&self, pool: &P, room: Room<T>, value: T);
+    fn give_to(&self, pool: &P, note: StackNote<T>, room: Room<T>, value: T) -> StackNote<T>
+        requires { IsNoteOf (P.lock pool.now) note }
+        ensures of { IsNoteOf (P.lock pool.now) result }
+        ensures given_back { IsGivenBack (P.leaves pool.now) (P.rejects pool.now) value note
+            result };
 }
 
 impl<T: Drop, P: SharedStackPool<T>, W: Wait + Copy> ReturnPermission<T, P> for W {
     #[inline(always)]
-    fn give_to(&self, pool: &P, room: Room<T>, value: T) {
-        pool.give(self, room, value);
+    fn give_to(&self, pool: &P, note: StackNote<T>, room: Room<T>, value: T) -> StackNote<T>
+        requires { IsNoteOf (P.lock pool.now) note }
+        ensures of { IsNoteOf (P.lock pool.now) result }
+        ensures given_back { IsGivenBack (P.leaves pool.now) (P.rejects pool.now) value note
+            result }
+    {
+        pool.give(self, note, room, value)
     }
+}
+
+/// A value that a pull took or made, with the room for its return, and what is known by the pull.
+pub(crate) struct PulledValue<T> {
+    pub value: T,
+    pub room: Room<T>,
+    pub note: StackNote<T>,
 }
 
 /// A value with the room for its return. Its drop resets the value, waits for the pool's lock and
 /// returns the value to the pool. No other call of it waits.
 ///
-/// In a clause it is the pool and the value.
+/// In a clause it is the pool, the value, and what is known of the pool's history up to the pull or
+/// the attachment.
 ///
 /// # Examples
 ///
@@ -92,22 +168,27 @@ impl<T: Drop, P: SharedStackPool<T>, W: Wait + Copy> ReturnPermission<T, P> for 
 pub struct StackReusable<T: Drop, P: SharedStackPool<T>, W: ReturnPermission<T, P>> {
     pool: P,
     rt: W,
+    note: StackNote<T>,
     room: Room<T>,
     value: T,
 }
 
 impl<T: Drop, P: SharedStackPool<T>, W: ReturnPermission<T, P>> Model for StackReusable<T, P, W> {
-    ghost use Rattle.pool_parts.specs.Item.{ValueView};
+    ghost use Rattle.stack_pools.specs.StackHistory.{IsNoteOf, StackItemView};
 
-    ghost Value = { ValueView P T };
+    ghost Value = { StackItemView P T };
 
-    ghost view = { λ reusable. record { pool = reusable.pool; value = reusable.value } };
+    ghost view = { λ reusable.
+        record { pool = reusable.pool; value = reusable.value; known = reusable.note } };
+
+    ghost invariant = { λ reusable. IsNoteOf (P.lock reusable.pool) reusable.note };
 }
 
 impl<T: Drop, P: SharedStackPool<T>, W: ReturnPermission<T, P>> StackReusable<T, P, W> {
     ghost use Rattle.std.specs.Prelude.{MatchResult};
 
-    /// Attaches a value to a pool, as an item that `init` never made.
+    /// Attaches a value to a pool, as an item that `init` never made. It is no operation on what
+    /// the pool keeps: its return is.
     ///
     /// # Errors
     ///
@@ -124,33 +205,61 @@ impl<T: Drop, P: SharedStackPool<T>, W: ReturnPermission<T, P>> StackReusable<T,
         ensures attached { MatchResult result (λ item. item.value ≡ value) (λ back. back ≡ value) }
     {
         match pool.room() {
-            Ok(room) => Ok(StackReusable::in_room(pool, *rt, room, value)),
+            Ok(room) => {
+                let note = pool.note();
+                let attached = PulledValue { value, room, note };
+                Ok(StackReusable::pulled(pool, *rt, attached))
+            }
             Err(_) => Err(value),
         }
     }
 
-    /// Takes the value out of its pool for good. No reset runs. Its room is dropped, and so is an
-    /// owner of the pool.
+    /// Takes the value out of its pool for good. No reset runs, and it is no operation on what the
+    /// pool keeps. Its room is dropped, and so is an owner of the pool.
     pub fn detach(self) -> T
         ensures { result ≡ self.value }
     {
         let StackReusable {
             pool: _,
             rt: _,
+            note: _,
             room: _,
             value,
         } = self;
         value
     }
 
-    /// Makes the reusable of a value that has its room.
-    pub(crate) fn in_room(pool: P, rt: W, room: Room<T>, value: T) -> StackReusable<T, P, W>
-        ensures pool { result.pool ≡ pool }
-        ensures value { result.value ≡ value }
+    /// Resets the value, waits for the pool's lock and returns the value to the pool. If the reset
+    /// rejects it, it is dropped instead. The note knows the pool's history up to this return.
+    // Inlined, so that the value isn't passed on through memory.
+    #[inline(always)]
+    pub fn give_back(self) -> StackNote<T>
+        ensures of { IsNoteOf (P.lock self.pool) result }
+        ensures given_back { IsGivenBack (P.leaves self.pool) (P.rejects self.pool) self.value
+            self.known result }
     {
+        let StackReusable {
+            pool,
+            rt,
+            note,
+            room,
+            value,
+        } = self;
+        rt.give_to(&pool, note, room, value)
+    }
+
+    /// Makes the reusable of a value that was pulled or attached.
+    pub(crate) fn pulled(pool: P, rt: W, pulled: PulledValue<T>) -> StackReusable<T, P, W>
+        requires { IsNoteOf (P.lock pool) pulled.note }
+        ensures pool { result.pool ≡ pool }
+        ensures value { result.value ≡ pulled.value }
+        ensures known { result.known ≡ pulled.note }
+    {
+        let PulledValue { value, room, note } = pulled;
         StackReusable {
             pool,
             rt,
+            note,
             room,
             value,
         }
@@ -175,7 +284,7 @@ impl<T: Drop, P: SharedStackPool<T>, W: ReturnPermission<T, P>> DerefMut
     ghost deref_mut_gives = { λ reusable value. value ≡ reusable.value };
 
     fn deref_mut(&mut self) -> &mut T
-        ensures* writes_back { sem 𝓛 (LendsStackValue T.row P.row W.row self.entry result) }
+        ensures* writes_back { sem 𝓛 (LendsStackValue T.row P.row W.row P.SharedStackPool self.entry result) }
         ensures shows { result.now ≡ self.old.value }
     {
         &mut self.value
@@ -186,13 +295,7 @@ impl<T: Drop, P: SharedStackPool<T>, W: ReturnPermission<T, P>> Drop for StackRe
     // Inlined, so that the value isn't passed on through memory.
     #[inline(always)]
     fn drop(self) {
-        let StackReusable {
-            pool,
-            rt,
-            room,
-            value,
-        } = self;
-        rt.give_to(&pool, room, value);
+        self.give_back();
     }
 }
 

@@ -4,8 +4,8 @@ use crate::supply::{Buffer, Supply, refused};
 use lockfree_object_pool::clean::AnyValue;
 use lockfree_object_pool::closures::Keep;
 use lockfree_object_pool::free_list::FreeList;
+use lockfree_object_pool::kept_stack::KeptStack;
 use lockfree_object_pool::made_or_reset::MadeOrReset;
-use lockfree_object_pool::spin_lock::SpinLock;
 use lockfree_object_pool::stack::Stack;
 use lockfree_object_pool::stack_object_pool::StackObjectPool;
 use lockfree_object_pool::stack_reusable::{SharedStackPool, StackReusable};
@@ -20,7 +20,7 @@ type KeptBuffers = MadeOrReset<Supply, Keep, AnyValue>;
 type Mutexed = Mutex<Stack<Buffer, KeptBuffers>>;
 
 /// The list of a spin lock pool.
-type SpinLocked = SpinLock<Stack<Buffer, KeptBuffers>>;
+type SpinLocked = KeptStack<Buffer, KeptBuffers>;
 
 type Pool<F> = StackObjectPool<Buffer, Supply, Keep, AnyValue, F>;
 

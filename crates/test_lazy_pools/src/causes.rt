@@ -16,6 +16,7 @@ enum Gave {
     Memory,
     Limit,
     Make(&'static str),
+    Closed,
 }
 
 fn outcome_of<A: Deref<Target = u32> + Drop>(
@@ -26,6 +27,7 @@ fn outcome_of<A: Deref<Target = u32> + Drop>(
         Err(PullWithError::Memory) => Gave::Memory,
         Err(PullWithError::Limit(_)) => Gave::Limit,
         Err(PullWithError::Make(cause)) => Gave::Make(*cause),
+        Err(PullWithError::Closed) => Gave::Closed,
     }
 }
 

@@ -8,6 +8,10 @@ mod causes;
 #[cfg(test)]
 mod clearing;
 #[cfg(test)]
+mod closing;
+#[cfg(test)]
+mod closing_threads;
+#[cfg(test)]
 mod gone;
 #[cfg(test)]
 mod limits;

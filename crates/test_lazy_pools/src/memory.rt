@@ -65,6 +65,16 @@ fn wait_and_clear<R: Abort + Wait + Clock>(rt: &R, pool: &Arc<Numbers>) {
     );
 }
 
+/// Closes a pool while an item is in use, which comes back then. Whether the pool is closed, why a
+/// pull fails, and how many items are in use at the end.
+fn close_beside_one<R: Wait>(rt: &R, pool: &Numbers) -> (bool, Option<PullError>, usize) {
+    let item = pool.pull_wait(rt);
+    pool.close();
+    let refusal = pool.pull_wait(rt).err();
+    drop(item);
+    (pool.is_closed(), refusal, pool.in_use())
+}
+
 #[test]
 fn waits_and_clearings_of_a_lazy_pool_ask_for_no_memory(rt: HostRuntime) {
     let Ok(pool) = owned_numbers(rt.alloc()) else {
@@ -75,4 +85,6 @@ fn waits_and_clearings_of_a_lazy_pool_ask_for_no_memory(rt: HostRuntime) {
     for _ in 0..3 {
         wait_and_clear(&rt, &pool);
     }
+    let end = close_beside_one(&rt, &pool);
+    assert_equal(&rt, end, (true, Some(PullError::Closed), 0));
 }

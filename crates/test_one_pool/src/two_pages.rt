@@ -2,7 +2,7 @@
 use linear_pools::LinearObjectPool;
 use linear_pools::clean::AnyValue;
 use linear_pools::closures::{Copied, Keep};
-use one_pool::two_items::{pull_two, return_two};
+use one_pool::two_items::{are_two, pull_two, return_two};
 use std::test::Fail;
 
 /// How many items of the first page are held before.
@@ -23,5 +23,22 @@ fn the_last_item_of_a_page_and_the_first_of_the_next_one(rt: HostRuntime) -> Res
     }
     // both are free again: the pull that asks the first page gives its one free item
     assert_eq!(rt; pool.pull()?.page_number(), 0);
+    Ok(())
+}
+
+#[test]
+fn two_items_of_a_further_page(rt: HostRuntime) -> Result<(), Fail> {
+    let alloc = rt.alloc();
+    let pool = LinearObjectPool::<u32, _, _, AnyValue>::new(alloc, Copied::new(0), Keep)?;
+    let mut held = Vec::new(alloc);
+    for _ in 0..HELD + 1 {
+        held.push(pool.pull()?)?;
+    }
+    let (mut one, mut other) = pull_two(&pool)?;
+    assert_eq!(rt; (one.page_number(), other.page_number()), (1, 1));
+    if one.page_number() == other.page_number() {
+        are_two(&mut one, &mut other);
+    }
+    assert_eq!(rt; (one.page_id(), other.page_id()), (0, 1));
     Ok(())
 }

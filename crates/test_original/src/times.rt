@@ -5,6 +5,7 @@ mod measure;
 mod pulls;
 pub mod task;
 mod turns;
+mod workers;
 
 use anyhow::{Context, Result};
 use measure::measure;
@@ -46,7 +47,10 @@ const WORKS: [Work; 7] = [
 ];
 
 /// What is asked of one kind of pool alone.
-const OF_ONE_KIND: [(Kind, Work); 2] = [
+const OF_ONE_KIND: [(Kind, Work); 5] = [
+    (Kind::Linear, Work::Worker { threads: 1 }),
+    (Kind::Fixed, Work::Worker { threads: 2 }),
+    (Kind::Lazy, Work::Worker { threads: 4 }),
     (Kind::Fixed, Work::Refuse),
     (
         Kind::LazyWait,

@@ -4,6 +4,7 @@ use crate::refusals::{Refusals, again};
 use lockfree_object_pool::clean::AnyValue;
 use lockfree_object_pool::closures::{Copied, Init, Keep};
 use lockfree_object_pool::free_list::FreeList;
+use lockfree_object_pool::kept_stack::KeptStack;
 use lockfree_object_pool::made_or_reset::MadeOrReset;
 use lockfree_object_pool::spin_lock::SpinLock;
 use lockfree_object_pool::stack::{Room, Stack};
@@ -25,7 +26,7 @@ type Pool<T, I, F> = StackObjectPool<T, I, Keep, AnyValue, F>;
 
 type UnderMutex<T, I> = Mutex<Stack<T, Kept<I>>>;
 
-type UnderSpinLock<T, I> = SpinLock<Stack<T, Kept<I>>>;
+type UnderSpinLock<T, I> = KeptStack<T, Kept<I>>;
 
 /// A kind of stack pool, by its free list, with the public call that makes such a pool.
 trait Kind<T, I: Init<T, AnyValue>>: FreeList<T, Kept<I>> {

@@ -3,8 +3,8 @@
 use lockfree_object_pool::clean::{AnyValue, Clean};
 use lockfree_object_pool::closures::{Copied, Init, Keep, Reset};
 use lockfree_object_pool::free_list::FreeList;
+use lockfree_object_pool::kept_stack::KeptStack;
 use lockfree_object_pool::made_or_reset::MadeOrReset;
-use lockfree_object_pool::spin_lock::SpinLock;
 use lockfree_object_pool::stack::Stack;
 use lockfree_object_pool::stack_object_pool::StackObjectPool;
 use lockfree_object_pool::stack_reusable::{SharedStackPool, StackReusable};
@@ -25,6 +25,7 @@ mod many_items;
 mod names;
 mod owners;
 mod refusals;
+mod rejecting;
 mod sends;
 mod stock;
 mod threads;
@@ -34,7 +35,7 @@ mod waits;
 type UnderMutex<T, I, R, K> = Mutex<Stack<T, MadeOrReset<I, R, K>>>;
 
 /// The free list of a spin lock pool.
-type UnderSpinLock<T, I, R, K> = SpinLock<Stack<T, MadeOrReset<I, R, K>>>;
+type UnderSpinLock<T, I, R, K> = KeptStack<T, MadeOrReset<I, R, K>>;
 
 /// A kind of stack pool, by its free list, with the public call that makes such a pool.
 trait Kind<T, I: Init<T, K>, R: Reset<T, K>, K: Clean<T>>: FreeList<T, MadeOrReset<I, R, K>> {

@@ -60,7 +60,7 @@ pub(crate) fn pulled_to_the_limit<A: Drop, P: Gives<A, R>, R>(
             Ok(item) => held.push(item)?,
             Err(PullError::Init) => report.count_refused(),
             Err(PullError::Limit) => return Ok(held.len()),
-            Err(PullError::Memory) => return Err(PullError::Memory),
+            Err(cause) => return Err(cause),
         }
     }
     Ok(MOST_PULLS)

@@ -97,6 +97,22 @@ fn used_as_kept<
     Ok(report)
 }
 
+/// Runs eight threads on a stack pool, whatever its list. That its items may be sent is found here, and
+/// not at the type of one pool.
+fn used_over_list<
+    T: Item + Send + 'static,
+    F: FreeList<T, StackedItems> + Send + Sync + 'static,
+    R: Threads + Wait + Copy + Send + 'static,
+>(
+    rt: &R,
+    alloc: Global,
+    pool: Stack<T, F>,
+    tally: &Tally,
+    rounds: u32,
+) -> Result<Report, PullError> {
+    used_as_kept::<T, _, _, R>(rt, alloc, pool, tally, rounds)
+}
+
 /// Eight threads on a spin lock pool.
 pub fn spin_lock<T: Item + Send + 'static, R: Threads + Wait + Copy + Send + 'static>(
     rt: &R,
@@ -106,5 +122,5 @@ pub fn spin_lock<T: Item + Send + 'static, R: Threads + Wait + Copy + Send + 'st
     let tally = Tally::new(alloc)?;
     let maker = maker(alloc, &tally)?;
     let pool: SpinLocked<T> = SpinLockObjectPool::new(alloc, maker, Clears)?;
-    used_as_kept::<T, _, _, R>(rt, alloc, pool, &tally, rounds)
+    used_over_list(rt, alloc, pool, &tally, rounds)
 }

@@ -92,7 +92,7 @@ impl<T: Item, A: DerefMut<Target = T> + Drop> Worker<A> {
             Ok(item) => return Some(item),
             Err(PullError::Memory) => self.report.count_without_memory(),
             Err(PullError::Init) => self.report.count_refused(),
-            Err(PullError::Limit) => {}
+            Err(PullError::Limit | PullError::Closed) => {}
         }
         None
     }

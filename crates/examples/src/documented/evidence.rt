@@ -86,6 +86,7 @@ fn found_in_one_pass(pool: &Lazy) -> &'static str {
         Ok(_item) => "an item",
         Err(LazyRefused::Busy(_)) => "each item was seen in use",
         Err(LazyRefused::NotMade) => "`init` returned `None`",
+        Err(LazyRefused::Closed) => "the pool is closed",
     }
 }
 

@@ -1,6 +1,6 @@
 //! What a pull has once it has seen each item of a fixed pool in use.
 use pool_parts::page::PullPass;
-use pool_parts::page::user_view::UserSeat;
+use pool_parts::page::inside::UserSeat;
 use std::marker::Model;
 
 /// The evidence that each item of a fixed pool was seen in use since the pass was made: by a word

@@ -7,9 +7,7 @@ use super::busy_seen::BusySeen;
 use super::order::Order;
 use pool_parts::PullError;
 use pool_parts::clean::Clean;
-use pool_parts::page::holding::Holding;
-use pool_parts::page::items::{Items, TakenValue};
-use pool_parts::page::user_view::UserSeat;
+use pool_parts::page::inside::{Holding, Items, TakenValue, UserSeat};
 use pool_parts::page::{PAGE_ITEMS, PageNote, PullPass};
 use std::alloc::{AllocError, Global};
 use std::sync::atomic::AtomicU64;
@@ -64,12 +62,11 @@ pub struct FixedItems<T, K: Clean<T>> {
 
 impl<T, K: Clean<T>> FixedItems<T, K> {
     ghost use Rattle.pool_parts.specs.Answers.{MayMake, Refuses};
-    ghost use Rattle.fixed_pools.specs.FixedPool.{IsFullNote, returns_since, IsWithin};
-    ghost use Rattle.pool_parts.specs.Page.{view_of, held_item};
-    ghost use Rattle.pool_parts.specs.Slot.{IsAllOut};
+    ghost use Rattle.fixed_pools.specs.FixedPool.{IsBusy, IsFullNote, PullsItem, pool_of, returns_since};
+    ghost use Rattle.pool_parts.specs.Page.{view_of};
     ghost use Rattle.pool_parts.specs.PageItems.{items_view};
-    ghost use Rattle.pool_parts.specs.Item.{IsFilled, IsPulled, new_user};
-    ghost use Rattle.pool_parts.specs.PageRule.{GoesOn};
+    ghost use Rattle.pool_parts.specs.Item.{IsFilled, new_user};
+    ghost use Rattle.pool_parts.specs.PageRule.{GoesOn, MayTake};
     ghost use Rattle.pool_parts.specs.declared.page.history.Operation.TheVariants.{Return};
 
     /// Creates `count` free items. Item `i` is the answer of call `i` of `init`, counted from 0.
@@ -109,7 +106,7 @@ impl<T, K: Clean<T>> FixedItems<T, K> {
 
     /// Returns the number of items.
     pub fn count(&self) -> usize
-        ensures { result ≡ (items_view self.now.shared).identity.slots }
+        ensures { result ≡ (pool_of self.now).slots }
     {
         self.count
     }
@@ -119,7 +116,7 @@ impl<T, K: Clean<T>> FixedItems<T, K> {
     /// A division takes as long as an atomic step, so it is made only for a number that is past the
     /// pages.
     pub fn page_round(&self, page: usize) -> usize
-        ensures { result < (items_view self.now.shared).identity.words }
+        ensures { result < (pool_of self.now).words }
     {
         if page < self.pages {
             page
@@ -130,7 +127,7 @@ impl<T, K: Clean<T>> FixedItems<T, K> {
 
     /// Returns the page at which a pull starts.
     pub(super) fn hinted(&self) -> usize
-        ensures { result < (items_view self.now.shared).identity.words }
+        ensures { result < (pool_of self.now).words }
     {
         let hint = self.hint.load(SeqCst) as usize;
         if hint < self.pages { hint } else { 0 }
@@ -142,7 +139,7 @@ impl<T, K: Clean<T>> FixedItems<T, K> {
     /// one page further than the round before, so in a small pool users share a page only if there
     /// are more users than pages.
     pub fn next_own_page(&self) -> usize
-        ensures { result < (items_view self.now.shared).identity.words }
+        ensures { result < (pool_of self.now).words }
     {
         let number = self.own_pages.fetch_add(1, SeqCst) as usize;
         let lines = self.pages.div_ceil(WORDS_APART);
@@ -164,22 +161,14 @@ impl<T, K: Clean<T>> FixedItems<T, K> {
     /// most, and each bit that was set in it is cleared, lowest first, until one was still set.
     /// Beyond its first page it hints at the page of its item.
     pub fn try_pull<'p>(&self, pass: &'p PullPass) -> Result<PulledItem<T>, BusySeen<'p, T>>
-        ensures pulled { IfOk result (λ pulled. IsPulled (items_view self.now.shared).identity
-            (new_user (items_view self.now.shared).opening (view_of pulled.holding.seat).user)
-            (held_item pulled.holding pulled.value)) }
-        ensures meets { IfOk result (λ pulled. K.meets pulled.value) }
-        ensures brief { IfOk result
-            (λ pulled. IsWithin (items_view self.now.shared).identity.words 0 0
-            (view_of pulled.holding.seat)) }
-        ensures busy { IfErr result (λ busy. IsAllOut (items_view self.now.shared).identity.slots
-            (items_view self.now.shared).identity
-            (new_user (items_view self.now.shared).opening busy.known.user) busy) }
-        ensures busy_brief { IfErr result
-            (λ busy. IsWithin (items_view self.now.shared).identity.words 0 0 busy.known) }
+        ensures pulled { IfOk result (λ item. PullsItem K.meets (pool_of self.now) 1
+            (new_user (items_view self.now.shared).opening (view_of item.holding.seat).user) item) }
+        ensures busy { IfErr result (λ busy. IsBusy (pool_of self.now)
+            (new_user (items_view self.now.shared).opening busy.known.user) busy.page busy.known) }
     {
         let page = self.hinted();
         let (word, mut seat) = self.shared.look(page);
-        let Ok(taken) = self.take(&mut seat, page, word, None) else {
+        let Ok(taken) = self.take_in_pass(&mut seat, page, word, None) else {
             return Err(BusySeen { seat, pass });
         };
         Ok(PulledItem {
@@ -197,24 +186,17 @@ impl<T, K: Clean<T>> FixedItems<T, K> {
     /// It isn't inlined, so that an owned or a lazy item isn't moved through memory.
     #[inline(never)]
     pub fn pull(&self) -> Result<PulledItem<T>, PageNote<T>>
-        ensures pulled { IfOk result (λ pulled. IsPulled (items_view self.now.shared).identity
-            (new_user (items_view self.now.shared).opening (view_of pulled.holding.seat).user)
-            (held_item pulled.holding pulled.value)) }
-        ensures meets { IfOk result (λ pulled. K.meets pulled.value) }
-        ensures brief { IfOk result (λ pulled. IsWithin ((items_view self.now.shared).identity.words
-            * (returns_since (view_of pulled.holding.seat) + 1)) 0 0
-            (view_of pulled.holding.seat)) }
-        ensures full { IfErr result (λ note. IsFullNote (items_view self.now.shared).identity
+        ensures pulled { IfOk result (λ item.
+            PullsItem K.meets (pool_of self.now) (returns_since (view_of item.holding.seat) + 1)
+            (new_user (items_view self.now.shared).opening (view_of item.holding.seat).user) item) }
+        ensures full { IfErr result (λ note. IsFullNote (pool_of self.now)
             (new_user (items_view self.now.shared).opening (view_of note.seat).user) note) }
-        ensures full_brief { IfErr result
-            (λ note. IsWithin ((items_view self.now.shared).identity.words
-            * (returns_since (view_of note.seat) + 2)) 0 0 (view_of note.seat)) }
     {
         self.pull_in_order(self.hinted(), None)
     }
 
-    /// Pulls an item as `pull` does, from this page on and in this order, or in the pool's own.
-    /// While this page has a free item it neither reads nor sets the hint.
+    /// Pulls a free item, from this page on and in this order, or in the pool's own. While this
+    /// page has a free item it neither reads nor sets the hint.
     ///
     /// # Errors
     ///
@@ -225,19 +207,12 @@ impl<T, K: Clean<T>> FixedItems<T, K> {
         start: usize,
         order: Option<Order>,
     ) -> Result<PulledItem<T>, PageNote<T>>
-        requires { start < (items_view self.now.shared).identity.words }
-        ensures pulled { IfOk result (λ pulled. IsPulled (items_view self.now.shared).identity
-            (new_user (items_view self.now.shared).opening (view_of pulled.holding.seat).user)
-            (held_item pulled.holding pulled.value)) }
-        ensures meets { IfOk result (λ pulled. K.meets pulled.value) }
-        ensures brief { IfOk result (λ pulled. IsWithin ((items_view self.now.shared).identity.words
-            * (returns_since (view_of pulled.holding.seat) + 1)) 0 0
-            (view_of pulled.holding.seat)) }
-        ensures full { IfErr result (λ note. IsFullNote (items_view self.now.shared).identity
+        requires { start < (pool_of self.now).words }
+        ensures pulled { IfOk result (λ item.
+            PullsItem K.meets (pool_of self.now) (returns_since (view_of item.holding.seat) + 1)
+            (new_user (items_view self.now.shared).opening (view_of item.holding.seat).user) item) }
+        ensures full { IfErr result (λ note. IsFullNote (pool_of self.now)
             (new_user (items_view self.now.shared).opening (view_of note.seat).user) note) }
-        ensures full_brief { IfErr result
-            (λ note. IsWithin ((items_view self.now.shared).identity.words
-            * (returns_since (view_of note.seat) + 2)) 0 0 (view_of note.seat)) }
     {
         let (word, mut seat) = self.shared.look(start);
         match self.take_or_full(&mut seat, start, word, order) {
@@ -252,30 +227,22 @@ impl<T, K: Clean<T>> FixedItems<T, K> {
         }
     }
 
-    /// Pulls as `try_pull` does, by a user that knows something of the pool. The pull comes after
-    /// all that it knew.
+    /// Pulls a free item in one pass, by a user that knows something of the pool. The pull comes
+    /// after all that it knew.
     pub(super) fn pull_from<'p>(
         &self,
         pass: &'p PullPass,
         note: PageNote<T>,
     ) -> Result<PulledItem<T>, BusySeen<'p, T>>
-        requires { note.seat.table_id ≡ (items_view self.now.shared).identity }
-        ensures pulled { IfOk result
-            (λ pulled. IsPulled (items_view self.now.shared).identity (view_of note.seat)
-            (held_item pulled.holding pulled.value)) }
-        ensures meets { IfOk result (λ pulled. K.meets pulled.value) }
-        ensures brief { IfOk result (λ pulled. IsWithin (items_view self.now.shared).identity.words
-            (view_of note.seat).loads (view_of note.seat).tries (view_of pulled.holding.seat)) }
-        ensures busy { IfErr result (IsAllOut (items_view self.now.shared).identity.slots
-            (items_view self.now.shared).identity (view_of note.seat)) }
-        ensures busy_brief { IfErr result
-            (λ busy. IsWithin (items_view self.now.shared).identity.words (view_of note.seat).loads
-            (view_of note.seat).tries busy.known) }
+        requires { note.seat.table_id ≡ (pool_of self.now) }
+        ensures pulled { IfOk result (PullsItem K.meets (pool_of self.now) 1 (view_of note.seat)) }
+        ensures busy { IfErr result (λ busy.
+            IsBusy (pool_of self.now) (view_of note.seat) busy.page busy.known) }
     {
         let PageNote { mut seat } = note;
         let start = self.hinted();
         let word = self.shared.look_again(&mut seat, start);
-        let Ok(taken) = self.take(&mut seat, start, word, None) else {
+        let Ok(taken) = self.take_in_pass(&mut seat, start, word, None) else {
             return Err(BusySeen { seat, pass });
         };
         Ok(PulledItem {
@@ -287,29 +254,19 @@ impl<T, K: Clean<T>> FixedItems<T, K> {
         })
     }
 
-    /// Pulls as `pull_in_order` does, by a user that knows something of the pool. The pull comes
-    /// after all that it knew. A refused pull returns the note, which knows what was found.
+    /// Pulls a free item, from this page on, by a user that knows something of the pool. The pull
+    /// comes after all that it knew. A refused pull returns the note, which knows what was found.
     #[inline(always)]
     pub(super) fn pull_onward(
         &self,
         page: usize,
         note: PageNote<T>,
     ) -> Result<PulledItem<T>, PageNote<T>>
-        requires page { page < (items_view self.now.shared).identity.words }
-        requires note { note.seat.table_id ≡ (items_view self.now.shared).identity }
-        ensures pulled { IfOk result
-            (λ pulled. IsPulled (items_view self.now.shared).identity (view_of note.seat)
-            (held_item pulled.holding pulled.value)) }
-        ensures meets { IfOk result (λ pulled. K.meets pulled.value) }
-        ensures brief { IfOk result (λ pulled. IsWithin ((items_view self.now.shared).identity.words
-            * (returns_since (view_of pulled.holding.seat) + 1)) (view_of note.seat).loads
-            (view_of note.seat).tries (view_of pulled.holding.seat)) }
-        ensures full { IfErr result
-            (IsFullNote (items_view self.now.shared).identity (view_of note.seat)) }
-        ensures full_brief { IfErr result
-            (λ later. IsWithin ((items_view self.now.shared).identity.words
-            * (returns_since (view_of later.seat) + 2)) (view_of note.seat).loads
-            (view_of note.seat).tries (view_of later.seat)) }
+        requires page { page < (pool_of self.now).words }
+        requires note { note.seat.table_id ≡ (pool_of self.now) }
+        ensures pulled { IfOk result (λ item. PullsItem K.meets (pool_of self.now)
+            (returns_since (view_of item.holding.seat) + 1) (view_of note.seat) item) }
+        ensures full { IfErr result (IsFullNote (pool_of self.now) (view_of note.seat)) }
     {
         let PageNote { mut seat } = note;
         let word = self.shared.look_again(&mut seat, page);
@@ -328,13 +285,11 @@ impl<T, K: Clean<T>> FixedItems<T, K> {
     /// Moves the value back and sets its bit, by the user that has the item. It hints at a page
     /// that was full.
     pub fn give(&self, holding: Holding<T>, value: T) -> UserSeat<T>
-        requires pool { holding.seat.table_id ≡ (items_view self.now.shared).identity }
-        requires in_pool { holding.number < (items_view self.now.shared).identity.slots }
+        requires pool { holding.seat.table_id ≡ (pool_of self.now) }
+        requires in_pool { holding.number < (pool_of self.now).slots }
         requires meets { K.meets value }
         ensures pool { result.table_id ≡ holding.seat.table_id }
-        ensures carries_none { result.me.1 ≡ [] }
-        ensures holds_none { result.me.0.held ≡ None }
-        ensures here { result.me.0.gone ≡ false }
+        ensures may_take { MayTake result.me }
         ensures returned { GoesOn (Return result.me.0.user holding.number value ∷ [])
             (view_of holding.seat) result.me.0 }
     {

@@ -1,53 +1,117 @@
-//! How a pull passes over the words of a pool: each is read once, and each bit that was set in it
-//! is tried once.
-ghost use Rattle.std.specs.Prelude.{◌≡◌, ◌+◌, ◌-◌, ◌*◌, ◌<◌, ◌≤◌, ℕ, IfOk, IfErr, None};
+//! How a pull passes over the words of a pool, each read once and each bit that was set in it tried
+//! once, and how it goes round until it has an item or finds that no item was free at one moment.
+ghost use Rattle.std.specs.Prelude.{◌≡◌, ◌+◌, ◌-◌, ◌*◌, ◌<◌, ◌≤◌, ℕ, MatchOption, MatchResult};
 ghost use Rattle.std.specs.Int.{bit_at};
 
 use super::items::FixedItems;
 use super::order::Order;
 use pool_parts::clean::Clean;
 use pool_parts::page::PAGE_ITEMS;
-use pool_parts::page::items::TakenValue;
-use pool_parts::page::user_view::UserSeat;
+use pool_parts::page::inside::{TakenValue, UserSeat};
+use std::snapshot::Snapshot;
 
 impl<T, K: Clean<T>> FixedItems<T, K> {
-    ghost use Rattle.fixed_pools.specs.FixedCount.{PassesOver, Tallies, is_beside};
-    ghost use Rattle.pool_parts.specs.PageItems.{items_view};
-    ghost use Rattle.fixed_pools.specs.FixedPool.{IsWithin};
-    ghost use Rattle.pool_parts.specs.PageRule.{IsOutNow, MayTake, MissesAll, TakesOne};
+    ghost use Rattle.fixed_pools.specs.FixedCount.{GoesOver, IsReady, MissesWord, PassesAll, PassesOver, ReadsOn, Takes, is_beside, passes_of};
+    ghost use Rattle.fixed_pools.specs.FixedPool.{IsFullSince, pool_of, returns_between};
+    ghost use Rattle.pool_parts.specs.PageRule.{IsOutNow};
 
-    /// Takes an item that is free, by a user that has read the first word. It hints at a page
-    /// behind the first one.
+    /// Takes an item that is free, by a user that has read the first word. `None` if no item was
+    /// free at one moment. Most pulls take one of the first word, so that is inlined.
+    #[inline(always)]
+    pub(super) fn take_or_full(
+        &self,
+        seat: &mut UserSeat<T>,
+        start: usize,
+        word: u32,
+        order: Option<Order>,
+    ) -> Option<TakenValue<T>>
+        requires ready { IsReady (pool_of self.now) seat.old }
+        requires in_pool { start < (pool_of self.now).words }
+        requires found { (bit : ℕ) → bit < 32 → bit_at word bit ≡ 0
+            → IsOutNow seat.old.me.0 (32 * start + bit) }
+        ensures steps { GoesOver ((pool_of self.now).words * passes_of result
+            (returns_between seat.old.me.0.operations seat.new.me.0.operations)) 1 seat.old
+            seat.new }
+        ensures outcome { MatchOption result (ReadsOn seat.old.me seat.new.me
+            × IsFullSince (pool_of self.now).slots seat.old.me.0.operations seat.new.me.0)
+            (λ taken. Takes K.meets (pool_of self.now) taken seat.old.me seat.new.me) }
+    {
+        let first = Snapshot::of(&*seat);
+        if let Some(taken) = self.shared.take_lowest(seat, start, word) {
+            return Some(taken);
+        }
+        // Moved once more, so that an item of the first word stays in registers.
+        let taken = self.take_further(seat, start, order, first)?;
+        Some(taken)
+    }
+
+    /// Takes an item that is free, by a user that found each item of its first word in use. `first`
+    /// is the user as it was before.
+    ///
+    /// It passes over the words again and again, until it has an item, or until a pass finds the
+    /// first word empty and the others count as many returns as in the pass before. Then no item
+    /// was free when the first word was read: each of the others was seen in use before that, and
+    /// came back neither before nor until it was read again.
+    ///
+    /// It isn't inlined, so that a pull of an item of the first word is short.
+    #[inline(never)]
+    fn take_further(
+        &self,
+        seat: &mut UserSeat<T>,
+        start: usize,
+        order: Option<Order>,
+        first: Snapshot<UserSeat<T>>,
+    ) -> Option<TakenValue<T>>
+        requires ready { IsReady (pool_of self.now) first.value }
+        requires in_pool { start < (pool_of self.now).words }
+        requires missed { MissesWord start first.value seat.old }
+        ensures steps { GoesOver ((pool_of self.now).words * passes_of result
+            (returns_between first.value.me.0.operations seat.new.me.0.operations)) 1 first.value
+            seat.new }
+        ensures outcome { MatchOption result (ReadsOn first.value.me seat.new.me
+            × IsFullSince (pool_of self.now).slots first.value.me.0.operations seat.new.me.0)
+            (λ taken. Takes K.meets (pool_of self.now) taken first.value.me seat.new.me) }
+    {
+        let mut before = match self.take_beside(seat, start, order) {
+            Ok(taken) => return Some(taken),
+            Err(returns) => returns,
+        };
+        for _ in 0..u64::MAX {
+            let (word, _) = self.shared.count(seat, start);
+            let after = match self.take_in_pass(seat, start, word, order) {
+                Ok(taken) => return Some(taken),
+                Err(returns) => returns,
+            };
+            if word == 0 && after == before {
+                return None;
+            }
+            before = after;
+        }
+        None
+    }
+
+    /// Takes an item that is free in one pass, by a user that has read the first word. It hints at
+    /// the page of an item beyond that word.
     ///
     /// # Errors
     ///
     /// How many returns the other words count together, modulo 2^32.
     #[inline(always)]
-    pub(super) fn take(
+    pub(super) fn take_in_pass(
         &self,
         seat: &mut UserSeat<T>,
         start: usize,
         word: u32,
         order: Option<Order>,
     ) -> Result<TakenValue<T>, u32>
-        requires pool { seat.old.table_id ≡ (items_view self.now.shared).identity }
-        requires in_pool { start < (items_view self.now.shared).identity.words }
-        requires ready { MayTake seat.old.me }
+        requires ready { IsReady (pool_of self.now) seat.old }
+        requires in_pool { start < (pool_of self.now).words }
         requires found { (bit : ℕ) → bit < 32 → bit_at word bit ≡ 0
             → IsOutNow seat.old.me.0 (32 * start + bit) }
-        ensures pool { seat.new.table_id ≡ seat.old.table_id }
-        ensures loads { seat.new.me.0.loads + 1 ≤ seat.old.me.0.loads +
-            (items_view self.now.shared).identity.words }
-        ensures tries { seat.new.me.0.tries ≤ seat.old.me.0.tries + 32 *
-            (items_view self.now.shared).identity.words }
-        ensures taken { IfOk result (λ taken.
-            TakesOne K.meets (items_view self.now.shared).identity.slots taken.number taken.value
-            None seat.old.me seat.new.me) }
-        ensures missed { IfErr result (λ _.
-            MissesAll 0 (items_view self.now.shared).identity.slots seat.old.me seat.new.me) }
-        ensures counted { IfErr result (λ returns.
-            Tallies (is_beside 0 (items_view self.now.shared).identity.words start) returns
-            seat.old.me.0 seat.new.me.0) }
+        ensures steps { GoesOver (pool_of self.now).words 1 seat.old seat.new }
+        ensures outcome { MatchResult result
+            (λ taken. Takes K.meets (pool_of self.now) taken seat.old.me seat.new.me)
+            (λ returns. PassesAll (pool_of self.now) start returns seat.old.me seat.new.me) }
     {
         if let Some(taken) = self.shared.take_lowest(seat, start, word) {
             return Ok(taken);
@@ -62,70 +126,34 @@ impl<T, K: Clean<T>> FixedItems<T, K> {
     ///
     /// How many returns these words count together, modulo 2^32.
     #[inline(always)]
-    pub(super) fn take_beside(
+    fn take_beside(
         &self,
         seat: &mut UserSeat<T>,
         start: usize,
         order: Option<Order>,
     ) -> Result<TakenValue<T>, u32>
-        requires pool { seat.old.table_id ≡ (items_view self.now.shared).identity }
-        requires in_pool { start < (items_view self.now.shared).identity.words }
-        requires ready { MayTake seat.old.me }
-        ensures pool { seat.new.table_id ≡ seat.old.table_id }
-        ensures steps { IsWithin ((items_view self.now.shared).identity.words - 1)
-            seat.old.me.0.loads seat.old.me.0.tries seat.new.me.0 }
-        ensures taken { IfOk result (λ taken.
-            TakesOne K.meets (items_view self.now.shared).identity.slots taken.number taken.value
-            None seat.old.me seat.new.me) }
-        ensures missed { IfErr result (λ returns.
-            PassesOver (is_beside 0 (items_view self.now.shared).identity.words start) returns
-            seat.old.me seat.new.me) }
+        requires ready { IsReady (pool_of self.now) seat.old }
+        requires in_pool { start < (pool_of self.now).words }
+        ensures steps { GoesOver ((pool_of self.now).words - 1) 0 seat.old seat.new }
+        ensures outcome { MatchResult result
+            (λ taken. Takes K.meets (pool_of self.now) taken seat.old.me seat.new.me) (λ returns.
+            PassesOver (is_beside 0 (pool_of self.now).words start) returns seat.old.me
+            seat.new.me) }
     {
         let next = match order.unwrap_or(self.order) {
             Order::Round => start + 1,
             Order::LowFirst => 0,
             Order::Hinted => self.hinted(),
         };
-        let taken = self.take_round(seat, start, next)?;
+        let taken = match self.scan(seat, next, self.pages, start) {
+            Ok(taken) => taken,
+            Err(behind) => match self.scan(seat, 0, next, start) {
+                Ok(taken) => taken,
+                Err(returns) => return Err(behind.wrapping_add(returns)),
+            },
+        };
         self.set_hint(taken.number / PAGE_ITEMS);
         Ok(taken)
-    }
-
-    /// Takes an item that is free from the words beside the first one, of which it asks this one
-    /// next, and then goes round.
-    ///
-    /// # Errors
-    ///
-    /// How many returns these words count together, modulo 2^32.
-    #[inline(always)]
-    fn take_round(
-        &self,
-        seat: &mut UserSeat<T>,
-        start: usize,
-        next: usize,
-    ) -> Result<TakenValue<T>, u32>
-        requires pool { seat.old.table_id ≡ (items_view self.now.shared).identity }
-        requires in_pool { start < (items_view self.now.shared).identity.words }
-        requires next_in_pool { next ≤ (items_view self.now.shared).identity.words }
-        requires ready { MayTake seat.old.me }
-        ensures pool { seat.new.table_id ≡ seat.old.table_id }
-        ensures steps { IsWithin ((items_view self.now.shared).identity.words - 1)
-            seat.old.me.0.loads seat.old.me.0.tries seat.new.me.0 }
-        ensures taken { IfOk result (λ taken.
-            TakesOne K.meets (items_view self.now.shared).identity.slots taken.number taken.value
-            None seat.old.me seat.new.me) }
-        ensures missed { IfErr result (λ returns.
-            PassesOver (is_beside 0 (items_view self.now.shared).identity.words start) returns
-            seat.old.me seat.new.me) }
-    {
-        let behind = match self.scan(seat, next, self.pages, start) {
-            Ok(taken) => return Ok(taken),
-            Err(returns) => returns,
-        };
-        match self.scan(seat, 0, next, start) {
-            Ok(taken) => Ok(taken),
-            Err(returns) => Err(behind.wrapping_add(returns)),
-        }
     }
 
     /// Reads the words from one page up to before another, but for one that is skipped, and takes
@@ -142,19 +170,15 @@ impl<T, K: Clean<T>> FixedItems<T, K> {
         to: usize,
         skipped: usize,
     ) -> Result<TakenValue<T>, u32>
-        requires pool { seat.old.table_id ≡ (items_view self.now.shared).identity }
+        requires ready { IsReady (pool_of self.now) seat.old }
         requires ordered { from ≤ to }
-        requires in_pool { to ≤ (items_view self.now.shared).identity.words }
-        requires ready { MayTake seat.old.me }
-        ensures pool { seat.new.table_id ≡ seat.old.table_id }
-        ensures steps { IsWithin (to - from) seat.old.me.0.loads seat.old.me.0.tries seat.new.me.0 }
+        requires in_pool { to ≤ (pool_of self.now).words }
+        ensures steps { GoesOver (to - from) 0 seat.old seat.new }
         ensures fewer_steps { from ≤ skipped → skipped < to
-            → IsWithin (to - from - 1) seat.old.me.0.loads seat.old.me.0.tries seat.new.me.0 }
-        ensures taken { IfOk result (λ taken.
-            TakesOne K.meets (items_view self.now.shared).identity.slots taken.number taken.value
-            None seat.old.me seat.new.me) }
-        ensures missed { IfErr result (λ returns.
-            PassesOver (is_beside from to skipped) returns seat.old.me seat.new.me) }
+            → GoesOver (to - from - 1) 0 seat.old seat.new }
+        ensures outcome { MatchResult result
+            (λ taken. Takes K.meets (pool_of self.now) taken seat.old.me seat.new.me)
+            (λ returns. PassesOver (is_beside from to skipped) returns seat.old.me seat.new.me) }
     {
         let mut returns: u32 = 0;
         for page in from..to {

@@ -1,17 +1,17 @@
-//! How many items a lazy pool has, and how it makes them beforehand and drops those that it keeps.
-ghost use Rattle.std.specs.Prelude.{◌<◌, ◌≤◌, None, IfErr, IfSome};
+//! How many items a lazy pool has, and how it makes them beforehand.
+ghost use Rattle.std.specs.Prelude.{◌<◌, ◌≤◌, None, IfErr};
 
 use super::LazyObjectPool;
 use fixed_pools::fixed_object_pool::items::PulledItem;
 use pool_parts::PullError;
 use pool_parts::clean::Clean;
 use pool_parts::closures::{Init, Reset};
-use pool_parts::page::{PAGE_ITEMS, PageId};
+use pool_parts::page::PAGE_ITEMS;
 use std::sync::atomic::Ordering::SeqCst;
 
 impl<T: Drop, I: Init<T, K>, R: Reset<T, K>, K: Clean<T>> LazyObjectPool<T, I, R, K> {
-    ghost use Rattle.pool_parts.specs.Answers.{Refuses};
-    ghost use Rattle.lazy_pools.specs.LazyPool.{IsPulledPlace, lazy_view};
+    ghost use Rattle.pool_parts.specs.Answers.{RefusesOrClosed};
+    ghost use Rattle.lazy_pools.specs.LazyPool.{lazy_view};
 
     /// Returns the most items that the pool has ever had at once, in use or free. It never falls:
     /// an item that is made in the place of one that was discarded or detached isn't counted anew.
@@ -47,11 +47,16 @@ impl<T: Drop, I: Init<T, K>, R: Reset<T, K>, K: Clean<T>> LazyObjectPool<T, I, R
     ///
     /// # Errors
     ///
-    /// `Init` if `init` returned `None`. The items made until then stay.
+    /// - `Init` if `init` returned `None`. The items made until then stay.
+    /// - `Closed` if the pool was closed.
     pub fn fill(&self, items: usize) -> Result<(), PullError>
-        ensures refused { IfErr result (Refuses ⊥ (I.answers (lazy_view self.now).init None) ⊥) }
+        ensures refused { IfErr result
+            (RefusesOrClosed ⊥ (I.answers (lazy_view self.now).init None) ⊥) }
     {
         for number in 0..self.places.count() {
+            if self.is_closed() {
+                return Err(PullError::Closed);
+            }
             if self.existing.load(SeqCst) >= items {
                 return Ok(());
             }
@@ -60,53 +65,18 @@ impl<T: Drop, I: Init<T, K>, R: Reset<T, K>, K: Clean<T>> LazyObjectPool<T, I, R
         Ok(())
     }
 
-    /// Drops the items that the pool keeps, by number, outside of every lock. Their places stay,
-    /// empty, and later pulls make items there. It takes one place at a time, and passes over those
-    /// that another call has meanwhile: items in use stay in use.
-    pub fn clear(&self) {
-        for number in 0..self.items() {
-            self.clear_place(number);
-        }
-    }
-
-    /// Drops the value of a place that is free.
-    fn clear_place(&self, number: usize)
-        requires { number < (lazy_view self.now).items }
-    {
-        let Some(PulledItem { holding, value }) = self.take_place(number) else {
-            return;
-        };
-        match value {
-            Some(value) => {
-                self.give_empty(holding);
-                drop(value);
-            }
-            None => {
-                self.give_place(holding, None);
-            }
-        }
-    }
-
     /// Makes the value of a place that is free and empty.
     fn fill_place(&self, number: usize) -> Result<(), PullError>
         requires { number < (lazy_view self.now).items }
-        ensures refused { IfErr result (Refuses ⊥ (I.answers (lazy_view self.now).init None) ⊥) }
+        ensures refused { IfErr result
+            (RefusesOrClosed ⊥ (I.answers (lazy_view self.now).init None) ⊥) }
     {
         let Some(pulled) = self.take_place(number) else {
             return Ok(());
         };
         let PulledItem { holding, value } = self.item(pulled)?;
-        self.give_place(holding, Some(value));
+        self.give_kept(holding, value);
         Ok(())
-    }
-
-    /// Takes the place of this number, if it is free.
-    fn take_place(&self, number: usize) -> Option<PulledItem<Option<T>>>
-        requires { number < (lazy_view self.now).items }
-        ensures { IfSome result (IsPulledPlace K.meets I.answers R.leaves (lazy_view self.now)) }
-    {
-        self.places
-            .pull_at(number / PAGE_ITEMS, (number % PAGE_ITEMS) as PageId)
     }
 
     /// Counts an item that was made, while its place is out.

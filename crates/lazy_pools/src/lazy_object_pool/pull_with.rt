@@ -18,14 +18,15 @@ impl<T: Drop, I: Init<T, K>, R: Reset<T, K>, K: Clean<T>> LazyObjectPool<T, I, R
     ghost use Rattle.pool_parts.specs.Page.{view_of, held_item};
     ghost use Rattle.fixed_pools.specs.FixedPool.{returns_since, IsWithin};
 
-    /// Pulls a free item as `pull` does. If its place is empty, `make` makes the value in place of
-    /// the pool's `init`. It runs under no lock, and the item is in use meanwhile.
+    /// Pulls a free item. If its place is empty, `make` makes the value in place of the pool's
+    /// `init`. It runs under no lock, and the item is in use meanwhile.
     ///
     /// # Errors
     ///
     /// - `Limit` with a note as evidence that no item was free at one moment of the call, as `pull`
     ///   says.
     /// - `Make` with the error of `make`. The place is free again, and empty.
+    /// - `Closed` if the pool was closed.
     pub fn pull_with<E: Drop, F: FnOnce() -> Result<T, E> + Drop>(
         &self,
         make: F,
@@ -41,18 +42,16 @@ impl<T: Drop, I: Init<T, K>, R: Reset<T, K>, K: Clean<T>> LazyObjectPool<T, I, R
         ensures refused { IfErr result
             (RefusesWith (lazy_view self.now) ⊥ ⊤ (λ cause. F.post make (Err cause))) }
     {
-        match self.places.pull() {
-            Ok(pulled) => self.reusable_with(self, pulled, make),
-            Err(full) => Err(PullWithError::Limit(full)),
-        }
+        self.reusable_with(self, self.take()?, make)
     }
 
-    /// Pulls a free item as `pull_with` does. The reusable owns the pool with others, which are one
-    /// more before an item is taken.
+    /// Pulls a free item, whose value `make` makes if its place is empty. The reusable owns the
+    /// pool with others, which are one more before an item is taken.
     ///
     /// # Errors
     ///
-    /// As `pull_with`, and `Memory` if the pool can have no more owners.
+    /// - `Memory` if the pool can have no more owners.
+    /// - `Limit`, `Make` and `Closed` as `pull_with` says.
     pub fn pull_owned_with<E: Drop, F: FnOnce() -> Result<T, E> + Drop>(
         self: &Arc<Self>,
         make: F,
@@ -72,17 +71,16 @@ impl<T: Drop, I: Init<T, K>, R: Reset<T, K>, K: Clean<T>> LazyObjectPool<T, I, R
         let Ok(owner) = Arc::try_clone(self) else {
             return Err(PullWithError::Memory);
         };
-        match self.places.pull() {
-            Ok(pulled) => self.reusable_with(owner, pulled, make),
-            Err(full) => Err(PullWithError::Limit(full)),
-        }
+        self.reusable_with(owner, self.take()?, make)
     }
 
-    /// Pulls a free item as `pull_with` does, or waits until one is returned, however long.
+    /// Pulls a free item, or waits until one is returned, however long. If its place is empty,
+    /// `make` makes the value.
     ///
     /// # Errors
     ///
-    /// `Make` with the error of `make`. The place is free again, and empty.
+    /// - `Make` with the error of `make`. The place is free again, and empty.
+    /// - `Closed` if the pool was closed, also while the call waits.
     pub fn pull_wait_with<W: Wait, E: Drop, F: FnOnce() -> Result<T, E> + Drop>(
         &self,
         rt: &W,
@@ -97,10 +95,11 @@ impl<T: Drop, I: Init<T, K>, R: Reset<T, K>, K: Clean<T>> LazyObjectPool<T, I, R
         ensures refused { IfErr result
             (RefusesWith (lazy_view self.now) ⊥ ⊥ (λ cause. F.post make (Err cause))) }
     {
-        self.reusable_with(self, self.take_or_wait(rt), make)
+        self.reusable_with(self, self.take_or_wait(rt)?, make)
     }
 
-    /// Pulls a free item as `pull_with` does, or waits for `time` at most until one is returned.
+    /// Pulls a free item, or waits for `time` at most until one is returned. If its place is empty,
+    /// `make` makes the value.
     ///
     /// `time` is a limit on the wait and on when `make` begins, and not on how long `make` takes.
     ///
@@ -109,6 +108,7 @@ impl<T: Drop, I: Init<T, K>, R: Reset<T, K>, K: Clean<T>> LazyObjectPool<T, I, R
     /// - `Limit` as `pull_timeout`, with a note as evidence that no item was free at one moment of
     ///   the call.
     /// - `Make` with the error of `make`. The place is free again, and empty.
+    /// - `Closed` if the pool was closed, also while the call waits.
     pub fn pull_timeout_with<W: Wait + Clock, E: Drop, F: FnOnce() -> Result<T, E> + Drop>(
         &self,
         rt: &W,
@@ -124,17 +124,16 @@ impl<T: Drop, I: Init<T, K>, R: Reset<T, K>, K: Clean<T>> LazyObjectPool<T, I, R
         ensures refused { IfErr result
             (RefusesWith (lazy_view self.now) ⊥ ⊤ (λ cause. F.post make (Err cause))) }
     {
-        match self.take_or_wait_for(rt, time) {
-            Ok(pulled) => self.reusable_with(self, pulled, make),
-            Err(full) => Err(PullWithError::Limit(full)),
-        }
+        self.reusable_with(self, self.take_or_wait_for(rt, time)?, make)
     }
 
-    /// Pulls an item as `pull_wait_with` does. The reusable owns the pool with others.
+    /// Pulls a free item, whose value `make` makes if its place is empty, or waits until one is
+    /// returned, however long. The reusable owns the pool with others.
     ///
     /// # Errors
     ///
-    /// As `pull_wait_with`, and at once `Memory` if the pool can have no more owners.
+    /// - At once `Memory` if the pool can have no more owners.
+    /// - `Make` and `Closed` as `pull_wait_with` says.
     pub fn pull_owned_wait_with<W: Wait, E: Drop, F: FnOnce() -> Result<T, E> + Drop>(
         self: &Arc<Self>,
         rt: &W,
@@ -152,14 +151,16 @@ impl<T: Drop, I: Init<T, K>, R: Reset<T, K>, K: Clean<T>> LazyObjectPool<T, I, R
         let Ok(owner) = Arc::try_clone(self) else {
             return Err(PullWithError::Memory);
         };
-        self.reusable_with(owner, self.take_or_wait(rt), make)
+        self.reusable_with(owner, self.take_or_wait(rt)?, make)
     }
 
-    /// Pulls an item as `pull_timeout_with` does. The reusable owns the pool with others.
+    /// Pulls a free item, whose value `make` makes if its place is empty, or waits for `time` at
+    /// most until one is returned. The reusable owns the pool with others.
     ///
     /// # Errors
     ///
-    /// As `pull_timeout_with`, and at once `Memory` if the pool can have no more owners.
+    /// - At once `Memory` if the pool can have no more owners.
+    /// - `Limit`, `Make` and `Closed` as `pull_timeout_with` says.
     pub fn pull_owned_timeout_with<W: Wait + Clock, E: Drop, F: FnOnce() -> Result<T, E> + Drop>(
         self: &Arc<Self>,
         rt: &W,
@@ -178,10 +179,7 @@ impl<T: Drop, I: Init<T, K>, R: Reset<T, K>, K: Clean<T>> LazyObjectPool<T, I, R
         let Ok(owner) = Arc::try_clone(self) else {
             return Err(PullWithError::Memory);
         };
-        match self.take_or_wait_for(rt, time) {
-            Ok(pulled) => self.reusable_with(owner, pulled, make),
-            Err(full) => Err(PullWithError::Limit(full)),
-        }
+        self.reusable_with(owner, self.take_or_wait_for(rt, time)?, make)
     }
 
     /// Returns the reusable of a place that was taken. If the place is empty, it makes the value by
@@ -214,7 +212,7 @@ impl<T: Drop, I: Init<T, K>, R: Reset<T, K>, K: Clean<T>> LazyObjectPool<T, I, R
                 Ok(LazyReusableOf::new(pool, PulledItem { holding, value }))
             }
             Err(cause) => {
-                self.give_place(holding, None);
+                self.give_place(holding);
                 Err(PullWithError::Make(cause))
             }
         }

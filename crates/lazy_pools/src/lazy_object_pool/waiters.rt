@@ -1,4 +1,4 @@
-//! Threads that wait until an item is returned: an event count of two words.
+//! Threads that wait until an item is returned, or the pool is closed: an event count of two words.
 //!
 //! A waiter counts itself, reads how many returns were told, tries once more, and sleeps only if no
 //! return was told since. A return sets the bit of its item, and then reads whether anybody waits.
@@ -6,16 +6,23 @@
 //! waiter counted, and the waiter finds the return told. While nobody waits, a return costs one
 //! load more, of a word that nobody writes.
 //!
-//! A waiter that gives up may have been woken in place of another, so it wakes one. No contract
-//! says any of this: `ci/waiting_model` explores these steps.
+//! A waiter that gives up may have been woken in place of another, so it wakes one. Who closes the
+//! pool says so in the first word, tells a return, and wakes all. So a waiter that hasn't seen the
+//! pool closed finds the return told. A return finds a closed pool as it finds a waiter.
+//!
+//! No contract says any of this: `ci/waiting_model` explores these steps.
 use std::sync::Wait;
 use std::sync::atomic::AtomicU64;
 use std::sync::atomic::Ordering::SeqCst;
 use std::time::Duration;
 
+/// The bit of `waiting` that says that the pool is closed. It is never cleared.
+const CLOSED: u64 = 1 << 63;
+
 /// How many threads wait for an item, and how many returns were told.
 #[derive(Drop)]
 pub(crate) struct Waiters {
+    /// How many threads wait, and `CLOSED`.
     waiting: AtomicU64,
     /// It may wrap. A sleep misses a return only if 2^32 others come between its look and its
     /// sleep.
@@ -23,7 +30,7 @@ pub(crate) struct Waiters {
 }
 
 impl Waiters {
-    /// Creates the words that say that nobody waits.
+    /// Creates the words that say that nobody waits, and that the pool isn't closed.
     pub(crate) const fn new() -> Waiters {
         Waiters {
             waiting: AtomicU64::new(0),
@@ -33,7 +40,20 @@ impl Waiters {
 
     /// Returns how many wait.
     pub(crate) fn count(&self) -> usize {
-        self.waiting.load(SeqCst) as usize
+        (self.waiting.load(SeqCst) & !CLOSED) as usize
+    }
+
+    /// Returns whether the pool is closed.
+    #[inline(always)]
+    pub(crate) fn is_closed(&self) -> bool {
+        self.waiting.load(SeqCst) & CLOSED != 0
+    }
+
+    /// Says that the pool is closed, and wakes all that wait.
+    pub(crate) fn close(&self) {
+        self.waiting.fetch_or(CLOSED, SeqCst);
+        self.told.fetch_add(1, SeqCst);
+        self.told.wake_all();
     }
 
     /// Counts one more that waits. From now on each return tells.
@@ -41,7 +61,7 @@ impl Waiters {
         self.waiting.fetch_add(1, SeqCst);
     }
 
-    /// Counts one less, which has its item.
+    /// Counts one less, which has its item or finds the pool closed.
     pub(crate) fn leave(&self) {
         self.waiting.fetch_sub(1, SeqCst);
     }
@@ -63,22 +83,21 @@ impl Waiters {
         self.told.park(rt, seen);
     }
 
-    /// Sleeps as `sleep` does, for `time` at most.
+    /// Sleeps until a return is told, for `time` at most, unless one was since `seen`.
     pub(crate) fn sleep_for<W: Wait>(&self, rt: &W, seen: u32, time: Duration) {
         self.told.park_timeout(rt, seen, time);
     }
 
-    /// Wakes one that waits, after the bit of an item was set.
+    /// Wakes one that waits, after the bit of an item was set. Returns whether the pool is closed.
     #[inline(always)]
-    pub(crate) fn tell(&self) {
-        if self.waiting.load(SeqCst) != 0 {
-            self.wake();
-        }
+    pub(crate) fn tell(&self) -> bool {
+        self.waiting.load(SeqCst) != 0 && self.wake()
     }
 
     #[cold]
-    fn wake(&self) {
+    fn wake(&self) -> bool {
         self.told.fetch_add(1, SeqCst);
         self.told.wake_one();
+        self.is_closed()
     }
 }

@@ -3,6 +3,7 @@ ghost use Rattle.std.specs.Prelude.{◌≡◌, ⊤, None, IfOk, IfErr};
 ghost use Rattle.std.specs.Arc.{arc_value};
 
 use super::LazyObjectPool;
+use super::lazy_refused::NoPlace;
 use crate::lazy_owned_reusable::LazyOwnedReusable;
 use crate::lazy_reusable::LazyReusable;
 use fixed_pools::fixed_object_pool::PoolNote;
@@ -15,8 +16,8 @@ use std::time::{Clock, Duration, Instant};
 
 impl<T: Drop, I: Init<T, K>, R: Reset<T, K>, K: Clean<T>> LazyObjectPool<T, I, R, K> {
     ghost use Rattle.fixed_pools.specs.FixedPool.{IsFullNote};
-    ghost use Rattle.lazy_pools.specs.LazyPool.{IsPulledPlace, Pulls, lazy_view};
-    ghost use Rattle.pool_parts.specs.Answers.{Refuses};
+    ghost use Rattle.lazy_pools.specs.LazyPool.{IsPulledPlace, Pulls, TakesNone, lazy_view};
+    ghost use Rattle.pool_parts.specs.Answers.{RefusesOrClosed};
     ghost use Rattle.pool_parts.specs.Item.{new_user};
     ghost use Rattle.pool_parts.specs.Page.{view_of};
 
@@ -24,14 +25,16 @@ impl<T: Drop, I: Init<T, K>, R: Reset<T, K>, K: Clean<T>> LazyObjectPool<T, I, R
     ///
     /// # Errors
     ///
-    /// `Init` if `init` returned `None`. The place is free again, and empty.
+    /// - `Init` if `init` returned `None`. The place is free again, and empty.
+    /// - `Closed` if the pool was closed, also while the call waits.
     pub fn pull_wait<W: Wait>(&self, rt: &W) -> Result<LazyReusable<'_, T, I, R, K>, PullError>
         ensures pool { IfOk result (λ item. item.pool.now ≡ self.now) }
         ensures pulled { IfOk result (λ item.
             Pulls K.meets I.answers R.leaves (lazy_view self.now) item.item item.value) }
-        ensures refused { IfErr result (Refuses ⊥ (I.answers (lazy_view self.now).init None) ⊥) }
+        ensures refused { IfErr result
+            (RefusesOrClosed ⊥ (I.answers (lazy_view self.now).init None) ⊥) }
     {
-        self.reusable(self, self.take_or_wait(rt))
+        self.reusable(self, self.take_or_wait(rt)?)
     }
 
     /// Pulls a free item, or waits for `time` at most until one is returned. With no time it waits
@@ -44,7 +47,8 @@ impl<T: Drop, I: Init<T, K>, R: Reset<T, K>, K: Clean<T>> LazyObjectPool<T, I, R
     ///
     /// - `Limit` if a last try after that time found no item free, or an empty place, for which
     ///   `init` would begin too late; or if the clock can't be read.
-    /// - `Init` as `pull`.
+    /// - `Init` if `init` returned `None`. The place is free again, and empty.
+    /// - `Closed` if the pool was closed, also while the call waits.
     pub fn pull_timeout<W: Wait + Clock>(
         &self,
         rt: &W,
@@ -53,19 +57,19 @@ impl<T: Drop, I: Init<T, K>, R: Reset<T, K>, K: Clean<T>> LazyObjectPool<T, I, R
         ensures pool { IfOk result (λ item. item.pool.now ≡ self.now) }
         ensures pulled { IfOk result (λ item.
             Pulls K.meets I.answers R.leaves (lazy_view self.now) item.item item.value) }
-        ensures refused { IfErr result (Refuses ⊥ (I.answers (lazy_view self.now).init None) ⊤) }
+        ensures refused { IfErr result
+            (RefusesOrClosed ⊥ (I.answers (lazy_view self.now).init None) ⊤) }
     {
-        match self.take_or_wait_for(rt, time) {
-            Ok(pulled) => self.reusable(self, pulled),
-            Err(_) => Err(PullError::Limit),
-        }
+        self.reusable(self, self.take_or_wait_for(rt, time)?)
     }
 
-    /// Pulls an item as `pull_wait` does. The reusable owns the pool with others.
+    /// Pulls a free item, or waits until one is returned, however long. The reusable owns the pool
+    /// with others.
     ///
     /// # Errors
     ///
-    /// As `pull_wait`, and at once `Memory` if the pool can have no more owners.
+    /// - At once `Memory` if the pool can have no more owners.
+    /// - `Init` and `Closed` as `pull_wait` says.
     pub fn pull_owned_wait<W: Wait>(
         self: &Arc<Self>,
         rt: &W,
@@ -75,17 +79,19 @@ impl<T: Drop, I: Init<T, K>, R: Reset<T, K>, K: Clean<T>> LazyObjectPool<T, I, R
             Pulls K.meets I.answers R.leaves (lazy_view (arc_value self.now)) item.item
             item.value) }
         ensures refused { IfErr result
-            (Refuses ⊤ (I.answers (lazy_view (arc_value self.now)).init None) ⊥) }
+            (RefusesOrClosed ⊤ (I.answers (lazy_view (arc_value self.now)).init None) ⊥) }
     {
         let owner = Arc::try_clone(self)?;
-        self.reusable(owner, self.take_or_wait(rt))
+        self.reusable(owner, self.take_or_wait(rt)?)
     }
 
-    /// Pulls an item as `pull_timeout` does. The reusable owns the pool with others.
+    /// Pulls a free item, or waits for `time` at most until one is returned. The reusable owns the
+    /// pool with others.
     ///
     /// # Errors
     ///
-    /// As `pull_timeout`, and at once `Memory` if the pool can have no more owners.
+    /// - At once `Memory` if the pool can have no more owners.
+    /// - `Limit`, `Init` and `Closed` as `pull_timeout` says.
     pub fn pull_owned_timeout<W: Wait + Clock>(
         self: &Arc<Self>,
         rt: &W,
@@ -96,91 +102,105 @@ impl<T: Drop, I: Init<T, K>, R: Reset<T, K>, K: Clean<T>> LazyObjectPool<T, I, R
             Pulls K.meets I.answers R.leaves (lazy_view (arc_value self.now)) item.item
             item.value) }
         ensures refused { IfErr result
-            (Refuses ⊤ (I.answers (lazy_view (arc_value self.now)).init None) ⊤) }
+            (RefusesOrClosed ⊤ (I.answers (lazy_view (arc_value self.now)).init None) ⊤) }
     {
         let owner = Arc::try_clone(self)?;
-        match self.take_or_wait_for(rt, time) {
-            Ok(pulled) => self.reusable(owner, pulled),
-            Err(_) => Err(PullError::Limit),
+        self.reusable(owner, self.take_or_wait_for(rt, time)?)
+    }
+
+    /// Takes a free place, or waits until one is returned or the pool is closed.
+    pub(super) fn take_or_wait<W: Wait>(&self, rt: &W) -> Result<PulledItem<Option<T>>, NoPlace<T>>
+        ensures pulled { IfOk result (IsPulledPlace K.meets I.answers R.leaves (lazy_view self.now)) }
+        ensures none { IfErr result (TakesNone (lazy_view self.now) ⊥) }
+    {
+        match self.take() {
+            Ok(pulled) => Ok(pulled),
+            Err(NoPlace::Closed) => Err(NoPlace::Closed),
+            Err(NoPlace::Full(_)) => self.wait_for_place(rt),
         }
     }
 
-    /// Takes a free place, or waits until one is returned.
-    pub(super) fn take_or_wait<W: Wait>(&self, rt: &W) -> PulledItem<Option<T>>
-        ensures { IsPulledPlace K.meets I.answers R.leaves (lazy_view self.now) result }
-    {
-        self.places
-            .pull()
-            .unwrap_or_else(|_full| self.wait_for_place(rt))
-    }
-
-    /// Takes a free place, or waits for `time` at most. An `Err` is the note of a moment at which no
-    /// place was free.
+    /// Takes a free place, or waits until one is returned or the pool is closed, for `time` at
+    /// most.
     pub(super) fn take_or_wait_for<W: Wait + Clock>(
         &self,
         rt: &W,
         time: Duration,
-    ) -> Result<PulledItem<Option<T>>, PoolNote<Option<T>>>
+    ) -> Result<PulledItem<Option<T>>, NoPlace<T>>
         ensures pulled { IfOk result (IsPulledPlace K.meets I.answers R.leaves (lazy_view self.now)) }
-        ensures full { IfErr result (λ full. IsFullNote (lazy_view self.now).identity
-            (new_user (lazy_view self.now).opening (view_of full.seat).user) full) }
+        ensures none { IfErr result (TakesNone (lazy_view self.now) ⊤) }
     {
-        self.places
-            .pull()
-            .or_else(|full| self.wait_for_place_within(rt, time, full))
+        match self.take() {
+            Ok(pulled) => Ok(pulled),
+            Err(NoPlace::Closed) => Err(NoPlace::Closed),
+            Err(NoPlace::Full(full)) => self.wait_for_place_within(rt, time, full),
+        }
     }
 
-    /// Waits for a place: the thread counts as waiting, and tries again each time that a return
-    /// wakes it.
+    /// Waits for a place: the thread counts as waiting, and tries again each time that it is woken.
     #[cold]
-    fn wait_for_place<W: Wait>(&self, rt: &W) -> PulledItem<Option<T>>
-        ensures { IsPulledPlace K.meets I.answers R.leaves (lazy_view self.now) result }
+    fn wait_for_place<W: Wait>(&self, rt: &W) -> Result<PulledItem<Option<T>>, NoPlace<T>>
+        ensures pulled { IfOk result (IsPulledPlace K.meets I.answers R.leaves (lazy_view self.now)) }
+        ensures none { IfErr result (TakesNone (lazy_view self.now) ⊥) }
     {
         self.waiters.enter();
         for _ in rt.forever() {
             let seen = self.waiters.seen();
-            if let Ok(pulled) = self.places.pull() {
-                self.waiters.leave();
-                return pulled;
+            match self.take() {
+                Ok(pulled) => {
+                    self.waiters.leave();
+                    return Ok(pulled);
+                }
+                Err(NoPlace::Closed) => {
+                    self.waiters.leave();
+                    return Err(NoPlace::Closed);
+                }
+                Err(NoPlace::Full(_)) => self.waiters.sleep(rt, seen),
             }
-            self.waiters.sleep(rt, seen);
         }
         unreachable!()
     }
 
-    /// Waits for a place as `wait_for_place` does, for `time` at most. After that time it returns
-    /// an empty place, for which `init` would begin too late. A clock that can't be read ends the
-    /// wait.
+    /// Waits for a place, for `time` at most: the thread counts as waiting, and tries again each
+    /// time that it is woken. After that time it returns an empty place, for which `init` would
+    /// begin too late. A clock that can't be read ends the wait.
     #[cold]
     fn wait_for_place_within<W: Wait + Clock>(
         &self,
         rt: &W,
         time: Duration,
         full: PoolNote<Option<T>>,
-    ) -> Result<PulledItem<Option<T>>, PoolNote<Option<T>>>
+    ) -> Result<PulledItem<Option<T>>, NoPlace<T>>
         requires full { IsFullNote (lazy_view self.now).identity
             (new_user (lazy_view self.now).opening (view_of full.seat).user) full }
         ensures pulled { IfOk result (IsPulledPlace K.meets I.answers R.leaves (lazy_view self.now)) }
-        ensures full { IfErr result (λ full. IsFullNote (lazy_view self.now).identity
-            (new_user (lazy_view self.now).opening (view_of full.seat).user) full) }
+        ensures none { IfErr result (TakesNone (lazy_view self.now) ⊤) }
     {
         let start = Instant::now(rt).ok();
         self.waiters.enter();
         for _ in rt.forever() {
             let seen = self.waiters.seen();
-            if let Ok(pulled) = self.places.pull() {
-                self.waiters.leave();
-                if pulled.value.is_none() && left_of(rt, start, time).is_none() {
-                    self.give_place(pulled.holding, None);
-                    return Err(full);
+            match self.take() {
+                Ok(pulled) => {
+                    self.waiters.leave();
+                    if pulled.value.is_none() && left_of(rt, start, time).is_none() {
+                        self.give_place(pulled.holding);
+                        return Err(NoPlace::Full(full));
+                    }
+                    return Ok(pulled);
                 }
-                return Ok(pulled);
+                Err(NoPlace::Closed) => {
+                    self.waiters.leave();
+                    return Err(NoPlace::Closed);
+                }
+                Err(NoPlace::Full(_)) => {
+                    let Some(left) = left_of(rt, start, time) else {
+                        self.waiters.give_up();
+                        return Err(NoPlace::Full(full));
+                    };
+                    self.waiters.sleep_for(rt, seen, left);
+                }
             }
-            let Some(left) = left_of(rt, start, time) else {
-                self.waiters.give_up();
-                return Err(full);
-            };
-            self.waiters.sleep_for(rt, seen, left);
         }
         unreachable!()
     }

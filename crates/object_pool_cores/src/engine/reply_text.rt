@@ -35,6 +35,7 @@ pub(super) fn refusal(cause: PullError) -> &'static str
         PullError::Memory => "refused memory",
         PullError::Init => "refused init",
         PullError::Limit => "refused limit",
+        PullError::Closed => "refused closed",
     }
 }
 

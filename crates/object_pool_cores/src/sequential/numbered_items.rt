@@ -1,5 +1,5 @@
 //! The items of a sequential linear pool, by their numbers.
-ghost use Rattle.std.specs.Prelude.{◌≡◌, ◌≤◌, ◌↔◌, ◌*◌, ◌+◌, ◌-◌, ◌/◌, min, [], Some, None, Err, ⊤};
+ghost use Rattle.std.specs.Prelude.{◌≡◌, ◌≢◌, ◌≤◌, ◌↔◌, ◌*◌, ◌+◌, ◌-◌, ◌/◌, min, [], Some, None, Err, ⊤};
 ghost use Rattle.std.specs.Prelude.{OnOk, OnErr, IfSome, IfNone, IsTrue, IfOk, IfErr, ℕ, nat_lt};
 ghost use Rattle.std.specs.Prelude.{length, slice_get, is_some, if◌then◌else◌};
 ghost use Rattle.object_pool_cores.specs.Item.{item_value, item_number};
@@ -155,6 +155,7 @@ impl<T: Drop, K: Clean<T>> NumberedItems<T, K> {
         ensures limit { result ≡ Err PullError.Limit
             ↔ (self.old.limit ≡ Some (listed_pool self.old).pages) }
         ensures init { result ≡ Err PullError.Init → I.answers init.now None }
+        ensures open { result ≢ Err PullError.Closed }
     {
         if self.limit == Some(self.pages()) {
             return Err(PullError::Limit);

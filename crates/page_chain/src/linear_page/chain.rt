@@ -15,6 +15,7 @@
 ghost use Rattle.std.specs.Prelude.{◌≡◌, ◌≤◌, ◌<◌, None, IfSome, IsSome, IfOk, IfErr, ⊤};
 ghost use Rattle.std.specs.Arc.{arc_value};
 ghost use Rattle.pool_parts.specs.Answers.{MayMake, Refuses};
+ghost use Rattle.pool_parts.specs.Ledger.{EachReturned};
 ghost use Rattle.pool_parts.specs.Page.{held_item, held_page, IsReturned, page_view, view_of};
 ghost use Rattle.pool_parts.specs.Slot.{IsAnswerOf, IsFullPage};
 ghost use Rattle.pool_parts.specs.declared.page.word.TheConstants.{PAGE_ITEMS};
@@ -27,7 +28,7 @@ use super::page_number::PageNumber;
 use super::walk::{KnownFull, WalkEnd, WalkRefusal};
 use pool_parts::PullError;
 use pool_parts::clean::{AnyValue, Clean};
-use pool_parts::page::holding::Holding;
+use pool_parts::page::inside::Holding;
 use pool_parts::page::{Allocated, FullSeen, Page, PageNote, PullPass, Returned};
 use std::alloc::Global;
 
@@ -229,7 +230,8 @@ impl<T: Drop, K: Clean<T>, O: Clean<T>> Chain<T, K, O> {
         requires on_page { ∥ IsWalkedTo (first_page self.now) number (held_page holding) ∥₁ }
         requires in_page { holding.number < PAGE_ITEMS }
         requires meets { K.meets value }
-        ensures { IsReturned (held_item holding value) result }
+        ensures returned { IsReturned (held_item holding value) result }
+        ensures each_returned { EachReturned K.meets (view_of result.seat).operations }
     {
         let page_number = number.get();
         let page = self.page_of(number, &holding);
@@ -251,6 +253,31 @@ impl<T: Drop, K: Clean<T>, O: Clean<T>> Chain<T, K, O> {
         ensures same_number { number.new ≡ number.old }
     {
         self.page_of(number.again(), holding)
+    }
+
+    /// Ensures that two items are of one page, whose pages have one number. It makes no step on a
+    /// page or a link.
+    pub fn are_of_one_page(
+        &self,
+        one: &mut PageNumber<T, K, O>,
+        one_holding: &Holding<T>,
+        other: &mut PageNumber<T, K, O>,
+        other_holding: &Holding<T>,
+    )
+        requires one { ∥ IsWalkedTo (first_page self.now) one.old (held_page one_holding.now) ∥₁ }
+        requires other { ∥ IsWalkedTo (first_page self.now) other.old
+            (held_page other_holding.now) ∥₁ }
+        requires same_number { other.old.number ≡ one.old.number }
+        ensures page { held_page other_holding.now ≡ held_page one_holding.now }
+        ensures same_one { one.new ≡ one.old }
+        ensures same_other { other.new ≡ other.old }
+    {
+        if one.get() == 0 {
+            return;
+        }
+        let (one, other) = (one.again(), other.again());
+        self.directory
+            .are_of_one_page(one, one_holding, other, other_holding);
     }
 
     /// Returns the page of an item, by the page's number. The first page needs no look at a link.

@@ -13,7 +13,7 @@ use super::page_number::PageNumber;
 use once_cell::race::OnceBox;
 use pool_parts::PullError;
 use pool_parts::clean::Clean;
-use pool_parts::page::holding::Holding;
+use pool_parts::page::inside::Holding;
 use std::alloc::{AllocError, Global};
 use std::marker::Model;
 use std::snapshot::Snapshot;
@@ -137,6 +137,27 @@ impl<T: Drop, K: Clean<T>, O: Clean<T>> Directory<T, K, O> {
             unreachable!()
         };
         page
+    }
+
+    /// Ensures that two items are of one page, to which the link of this number leads, as the notes
+    /// of both know.
+    pub(super) fn are_of_one_page(
+        &self,
+        one: PageNumber<T, K, O>,
+        one_holding: &Holding<T>,
+        other: PageNumber<T, K, O>,
+        other_holding: &Holding<T>,
+    )
+        requires one { ∥ IsLinkedAt self.now one (held_page one_holding.now) ∥₁ }
+        requires other { ∥ IsLinkedAt self.now other (held_page other_holding.now) ∥₁ }
+        requires past_first { 0 < one.number }
+        requires same_number { other.number ≡ one.number }
+        ensures { held_page other_holding.now ≡ held_page one_holding.now }
+    {
+        let place = self.place(one.get());
+        let mut note = one.into_note(&place);
+        let known = other.into_note(&place);
+        note.compare(known);
     }
 
     /// Returns the link to the first page that a hint names.

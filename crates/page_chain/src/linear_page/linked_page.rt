@@ -114,7 +114,7 @@ impl<'c, T: Drop, K: Clean<T>, O: Clean<T>> LinearPage<'c, T, K, O> {
         self.next.new_note()
     }
 
-    /// Returns the page after this one as `next` does, for a caller with a note of the link.
+    /// Returns the page after this one, if one is linked, for a caller with a note of the link.
     ///
     /// If the note knows the page that is linked here, it is that page. Afterwards the note knows
     /// the page that was returned.
@@ -157,8 +157,8 @@ impl<'c, T: Drop, K: Clean<T>, O: Clean<T>> LinearPage<'c, T, K, O> {
         Ok((next, note))
     }
 
-    /// Returns the page after this one as `get_or_create_next` does, for a caller with a note of
-    /// the link.
+    /// Returns the page after this one, for a caller with a note of the link. If none is linked, it
+    /// makes one and links it, unless another thread was first.
     ///
     /// If the note knows the page that is linked here, it is that page. Afterwards the note knows
     /// the page that was returned. The link is read once, and one exchange sets it if a page was
@@ -166,7 +166,7 @@ impl<'c, T: Drop, K: Clean<T>, O: Clean<T>> LinearPage<'c, T, K, O> {
     ///
     /// # Errors
     ///
-    /// As `get_or_create_next`.
+    /// `Memory`, or `Init` at the first `None`. Then no page is linked.
     pub fn get_or_create_next_as<I: Fn() -> Option<T>>(
         &self,
         seen: FullSeen<'_, T>,

@@ -83,7 +83,7 @@ pub(super) fn made_page<T: Drop, K: Clean<T>, O: Clean<T>, I: Fn() -> Option<T>>
     Ok(OpenedPage::new(page))
 }
 
-/// Makes a page as `made_page` does, and records that it was made.
+/// Makes a page for a chain, and records that it was made.
 pub(super) fn told_page<T: Drop, K: Clean<T>, O: Clean<T>, I: Fn() -> Option<T>>(
     alloc: Global,
     init: &I,

@@ -132,8 +132,8 @@ impl<'c, T: Drop, K: Clean<T>, O: Clean<T>> LinearPage<'c, T, K, O> {
         Ok((reached.slot, passed))
     }
 
-    /// Pulls as `alloc` does, from the first `pages` pages from this one on. It links no page past
-    /// them.
+    /// Pulls from the first page that has an item, of the `pages` pages from this one on. It links
+    /// no page past them, and returns the page's number too, counted from this one.
     ///
     /// # Errors
     ///
@@ -156,8 +156,8 @@ impl<'c, T: Drop, K: Clean<T>, O: Clean<T>> LinearPage<'c, T, K, O> {
         Ok((reached.slot, passed))
     }
 
-    /// Pulls as `alloc` does. The item owns its page with others: it becomes one more owner once
-    /// the item is taken.
+    /// Pulls from the first page that has an item, from this one on. The item owns its page with
+    /// others: it becomes one more owner once the item is taken.
     ///
     /// # Errors
     ///
@@ -176,8 +176,8 @@ impl<'c, T: Drop, K: Clean<T>, O: Clean<T>> LinearPage<'c, T, K, O> {
         Ok((slot, number.get() - self.number))
     }
 
-    /// Pulls as `alloc_owned` does, from the first `pages` pages from this one on. It links no page
-    /// past them.
+    /// Pulls an item that owns its page with others, from the first page that has one, of the
+    /// `pages` pages from this one on. It links no page past them.
     ///
     /// # Errors
     ///

@@ -13,7 +13,7 @@ pub struct Holding<T> {
     pub seat: UserSeat<T>,
     /// A whole word, so that an item on its way up is moved by words.
     pub number: usize,
-    ghost here: { seat.me.0.gone ≡ false },
+    ghost here: { seat.me.0.retired ≡ false },
     ghost holds: { seat.me.0.held ≡ Some number } by { same_holding _ _ },
     ghost carries: { seat.me.1 ≡ (number, None) ∷ [] } by { same_carrying T.code _ _ },
 }

@@ -15,7 +15,7 @@ impl<T, K: Clean<T>> Items<T, K> {
     /// Reads a word by a user, which is told the history so far.
     fn meet(&self, seat: &mut UserSeat<T>)
         requires items { seat.old.table_id ≡ (items_view self.now).identity }
-        requires here { seat.old.me.0.gone ≡ false }
+        requires here { seat.old.me.0.retired ≡ false }
         ensures items { seat.new.table_id ≡ seat.old.table_id }
         ensures met { Meets seat.old.me seat.new.me }
     {
@@ -26,13 +26,13 @@ impl<T, K: Clean<T>> Items<T, K> {
     fn introduce(&self, one: &mut UserSeat<T>, other: &mut UserSeat<T>)
         requires one { one.old.table_id ≡ (items_view self.now).identity }
         requires other { other.old.table_id ≡ (items_view self.now).identity }
-        requires one_here { one.old.me.0.gone ≡ false }
-        requires other_here { other.old.me.0.gone ≡ false }
+        requires one_here { one.old.me.0.retired ≡ false }
+        requires other_here { other.old.me.0.retired ≡ false }
         ensures one { (one.new.table_id ≡ one.old.table_id) × (one.new.me ≡ one.old.me) }
         ensures items { other.new.table_id ≡ other.old.table_id }
         ensures met { Meets (
           record other.old.me.0 {
-            told = one.old.me.0.told;
+            merged = one.old.me.0.merged;
             met = Some (one.old.me.0.user, one.old.me.0.meetings);
           },
           other.old.me.1,

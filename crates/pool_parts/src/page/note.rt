@@ -37,7 +37,7 @@ pub struct Witness<T> {
 #[derive(Drop)]
 pub struct PageNote<T> {
     pub seat: UserSeat<T>,
-    ghost here: { seat.me.0.gone ≡ false },
+    ghost here: { seat.me.0.retired ≡ false },
     ghost holds_none: { seat.me.0.held ≡ None } by { same_holding _ _ },
     ghost carries_none: { seat.me.1 ≡ [] } by { same_carrying T.code _ _ },
 }

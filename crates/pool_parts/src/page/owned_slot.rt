@@ -52,7 +52,8 @@ impl<T, K: Clean<T>> Model for OwnedSlot<T, K> {
 }
 
 impl<T, K: Clean<T>> OwnedSlot<T, K> {
-    ghost use Rattle.pool_parts.specs.Page.{IsReturned};
+    ghost use Rattle.pool_parts.specs.Ledger.{EachReturned};
+    ghost use Rattle.pool_parts.specs.Page.{IsReturned, view_of};
 
     /// Returns the number of the item in its page.
     pub fn id(&self) -> PageId
@@ -80,7 +81,8 @@ impl<T, K: Clean<T>> OwnedSlot<T, K> {
     where
         T: Drop,
         requires { K.meets self.item.value }
-        ensures { IsReturned self.item result }
+        ensures returned { IsReturned self.item result }
+        ensures each_returned { EachReturned K.meets (view_of result.seat).operations }
     {
         let OwnedSlot {
             page,

@@ -74,7 +74,7 @@ impl<T> Split<UserView<T>> for Witnesses {
     ghost left = { λ known. known };
 
     ghost right = { λ known.
-        record (new_user known.opening 0) { operations = known.operations; gone = true } };
+        record (new_user known.opening 0) { operations = known.operations; retired = true } };
 }
 
 /// A user tells another what it knows, and is gone.
@@ -84,9 +84,9 @@ impl<T> Join<UserView<T>> for Tells {
     ghost use Rattle.std.specs.Prelude.{[], true};
     ghost use Rattle.pool_parts.specs.Item.{new_user};
 
-    ghost both = { λ known other. record known { told = other.operations; met = other.met } };
+    ghost both = { λ known other. record known { merged = other.operations; met = other.met } };
 
-    ghost spent = { record (new_user [] 0) { gone = true } };
+    ghost spent = { record (new_user [] 0) { retired = true } };
 }
 
 /// A user introduces itself to another: what it was told, its number, and how often it has met.
@@ -100,8 +100,8 @@ impl<T> Split<UserView<T>> for Introduces {
 
     ghost right = { λ known.
         record (new_user known.opening 0) {
-          operations = known.told;
-          gone = true;
+          operations = known.merged;
+          retired = true;
           met = Some (known.user, known.meetings);
         } };
 }
@@ -138,16 +138,19 @@ impl<T, K: Clean<T>> Play<Option<T>, UserView<T>> for ClearBit<K> {
 
 /// A step that sets one bit of the word, once its value is back home: the user holds nothing any
 /// more.
-pub struct SetBit;
+pub struct SetBit<K> {
+    condition: PhantomData<K>,
+}
 
-impl<T> Play<Option<T>, UserView<T>> for SetBit {
+impl<T, K: Clean<T>> Play<Option<T>, UserView<T>> for SetBit<K> {
     ghost use Rattle.std.specs.Prelude.{◌≡◌, ℕ, [], ◌∷◌, Some, None};
     ghost use Rattle.atomic_table.specs.Table.{rest};
+    ghost use Rattle.pool_parts.specs.Ledger.{EachReturned};
     ghost use Rattle.pool_parts.specs.PageRule.{GoesOn};
     ghost use Rattle.pool_parts.specs.declared.page.history.Operation.TheVariants.{Return};
 
     ghost then = { λ _ old _ new.
-        (new.0.held ≡ None) × (new.1 ≡ rest old.1)
+        (new.0.held ≡ None) × (new.1 ≡ rest old.1) × EachReturned K.meets new.0.operations
         × ((id : ℕ) (value : T) → old.0.held ≡ Some id → old.1 ≡ (id, Some value) ∷ []
         → GoesOn (Return new.0.user id value ∷ []) old.0 new.0) };
 }

@@ -45,6 +45,7 @@ impl<T, K: Clean<T>> Page<T, K> {
     ghost use Rattle.pool_parts.specs.Page.{held_item, HoldsSame, IsReturned, IsNoteOf, HasLearned, page_identity, page_opening, view_of};
     ghost use Rattle.pool_parts.specs.Item.{IsPageItem, IsPulled, IsFilled, new_user};
     ghost use Rattle.pool_parts.specs.PageRule.{MayTake, IsOutNow};
+    ghost use Rattle.pool_parts.specs.Ledger.{EachReturned};
 
     /// Creates a page of 32 free items. Item `i` is the answer of call `i` of `init`, counted from
     /// 0.
@@ -97,8 +98,8 @@ impl<T, K: Clean<T>> Page<T, K> {
         }
     }
 
-    /// Pulls a free item as `alloc` does, or returns the evidence that each was seen in use. A pull
-    /// may go on to another page with it.
+    /// Pulls a free item, or returns the evidence that each was seen in use. A pull may go on to
+    /// another page with it.
     ///
     /// # Errors
     ///
@@ -115,7 +116,7 @@ impl<T, K: Clean<T>> Page<T, K> {
         Ok(self.take(pass).answer)
     }
 
-    /// Pulls as `try_alloc` does, without its `Result`. It returns too whether the page was left
+    /// Pulls a free item, or finds that each is in use. It returns too whether the page was left
     /// full.
     pub fn take<'s, 'p>(&'s self, pass: &'p PullPass) -> PageAnswer<'s, 'p, T, K>
         ensures answer { IsAnswerOf K.meets (page_identity self.now)
@@ -126,8 +127,8 @@ impl<T, K: Clean<T>> Page<T, K> {
         self.take_lowest(pass, word, seat)
     }
 
-    /// Pulls as `try_alloc` does, by a user that knows something of the page. The pull comes after
-    /// all that the note knew.
+    /// Pulls a free item, or returns the evidence that each was seen in use, by a user that knows
+    /// something of the page. The pull comes after all that the note knew.
     ///
     /// # Errors
     ///
@@ -148,7 +149,7 @@ impl<T, K: Clean<T>> Page<T, K> {
         Ok(self.take_from(pass, note))
     }
 
-    /// Pulls as `try_alloc_from` does, without its `Result`.
+    /// Pulls a free item, or finds that each is in use, by a user that knows something of the page.
     pub fn take_from<'s, 'p>(
         &'s self,
         pass: &'p PullPass,
@@ -218,7 +219,7 @@ impl<T, K: Clean<T>> Page<T, K> {
     ) -> PageAnswer<'s, 'p, T, K>
         requires page { seat.table_id ≡ page_identity self.now }
         requires ready { MayTake seat.me }
-        requires from_now { seat.me.0.since ≡ seat.me.0.operations }
+        requires from_now { seat.me.0.at_load ≡ seat.me.0.operations }
         requires found { (id : ℕ) → id < PAGE_ITEMS → bit_at word id ≡ 0
             → IsOutNow seat.me.0 (32 * 0 + id) }
         ensures answer { IsAnswerOf K.meets (page_identity self.now) seat.me.0 result.answer }
@@ -252,7 +253,8 @@ impl<T, K: Clean<T>> Page<T, K> {
     /// return.
     pub fn free(slot: PageSlot<'_, T, K>) -> PageNote<T>
         requires { K.meets slot.item.value }
-        ensures { IsReturned slot.entry.item result }
+        ensures returned { IsReturned slot.entry.item result }
+        ensures each_returned { EachReturned K.meets (view_of result.seat).operations }
     {
         let (page, holding, value) = slot.into_parts();
         page.give(holding, value).note
@@ -263,7 +265,8 @@ impl<T, K: Clean<T>> Page<T, K> {
         requires of_page { holding.seat.table_id ≡ page_identity self.now }
         requires in_page { holding.number < PAGE_ITEMS }
         requires meets { K.meets value }
-        ensures { IsReturned (held_item holding value) result.note }
+        ensures returned { IsReturned (held_item holding value) result.note }
+        ensures each_returned { EachReturned K.meets (view_of result.note.seat).operations }
     {
         let (seat, was_full) = self.items.give(holding, value, 0);
         Returned {

@@ -16,6 +16,7 @@ impl<T, K: Clean<T>> Items<T, K> {
     ghost use Rattle.pool_parts.specs.PageItems.{items_view};
     ghost use Rattle.pool_parts.specs.PageRule.{Loads, Counts, Misses, TakesOne, GoesOn};
     ghost use Rattle.pool_parts.specs.Item.{new_user};
+    ghost use Rattle.pool_parts.specs.Ledger.{EachReturned};
 
     /// Reads the bits of a word, by a new user, which then knows the items of it that are in use.
     pub fn look(&self, page: usize) -> (u32, UserSeat<T>)
@@ -33,7 +34,7 @@ impl<T, K: Clean<T>> Items<T, K> {
     pub fn look_again(&self, seat: &mut UserSeat<T>, page: usize) -> u32
         requires items { seat.old.table_id ≡ (items_view self.now).identity }
         requires in_items { page < (items_view self.now).identity.words }
-        requires here { seat.old.me.0.gone ≡ false }
+        requires here { seat.old.me.0.retired ≡ false }
         ensures items { seat.new.table_id ≡ seat.old.table_id }
         ensures found { Loads page seat.old.me result seat.new.me }
     {
@@ -45,7 +46,7 @@ impl<T, K: Clean<T>> Items<T, K> {
         requires items { seat.old.table_id ≡ (items_view self.now).identity }
         requires in_items { page < (items_view self.now).identity.words }
         requires counts { (items_view self.now).raise ≡ 1 }
-        requires here { seat.old.me.0.gone ≡ false }
+        requires here { seat.old.me.0.retired ≡ false }
         ensures items { seat.new.table_id ≡ seat.old.table_id }
         ensures found { Counts (items_view self.now).identity.slots page seat.old.me result.0
             result.1 seat.new.me }
@@ -61,7 +62,7 @@ impl<T, K: Clean<T>> Items<T, K> {
         requires in_items { page < (items_view self.now).identity.words }
         requires in_word { bit < 32 }
         requires holds_none { seat.old.me.0.held ≡ None }
-        requires here { seat.old.me.0.gone ≡ false }
+        requires here { seat.old.me.0.retired ≡ false }
         ensures items { seat.new.table_id ≡ seat.old.table_id }
         ensures outcome { MatchOption result (Misses (32 * page + bit) seat.old.me seat.new.me)
             (λ taken. TakesOne K.meets (items_view self.now).identity.slots (32 * page + bit)
@@ -93,9 +94,10 @@ impl<T, K: Clean<T>> Items<T, K> {
         ensures items { result.0.table_id ≡ holding.seat.table_id }
         ensures carries_none { result.0.me.1 ≡ [] }
         ensures holds_none { result.0.me.0.held ≡ None }
-        ensures here { result.0.me.0.gone ≡ false }
+        ensures here { result.0.me.0.retired ≡ false }
         ensures returned { GoesOn (Return result.0.me.0.user holding.number value ∷ [])
             (view_of holding.seat) result.0.me.0 }
+        ensures each_returned { EachReturned K.meets result.0.me.0.operations }
     {
         let words = &self.table.shared;
         let Holding { mut seat, number } = holding;
@@ -105,7 +107,7 @@ impl<T, K: Clean<T>> Items<T, K> {
         }
         let bit = with_bit(0, (number % PAGE_ITEMS) as PageId);
         let added = (raise << 32) + bit as u64;
-        let word = words.fetch_add::<SetBit>(&mut seat, number / PAGE_ITEMS, added);
+        let word = words.fetch_add::<SetBit<K>>(&mut seat, number / PAGE_ITEMS, added);
         (seat, low_half(word) == 0)
     }
 }

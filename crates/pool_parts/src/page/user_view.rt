@@ -14,11 +14,11 @@ pub struct UserView<T> {
     /// The page's operations up to the user's last step, of which the last stands first.
     pub operations: LinkedList<Operation<T>>,
     /// The operations as they were at the user's load.
-    pub since: LinkedList<Operation<T>>,
-    /// Operations that another user knew, when it told them.
-    pub told: LinkedList<Operation<T>>,
-    /// Whether the user has gone, and left what it knew to another.
-    pub gone: bool,
+    pub at_load: LinkedList<Operation<T>>,
+    /// Operations that another user knew, which were merged into what this one knows.
+    pub merged: LinkedList<Operation<T>>,
+    /// Whether the user has retired, and left what it knew to another.
+    pub retired: bool,
     /// The user's own operations.
     pub own: LinkedList<Operation<T>>,
     /// How many words the user has read.

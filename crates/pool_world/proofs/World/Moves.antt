@@ -9,7 +9,7 @@ use Rattle.std.specs.Option.{option_eq}
 use Rattle.std.specs.Int.{w32, trailing_zeros}
 use Rattle.pool_parts.specs.declared.page.word.TheConstants.{PAGE_ITEMS}
 use Rattle.pool_parts.specs.declared.pull_error.PullError.{PullError}
-use Rattle.pool_parts.specs.declared.pull_error.PullError.TheVariants.{Memory, Init, Limit}
+use Rattle.pool_parts.specs.declared.pull_error.PullError.TheVariants.{Memory, Init, Limit, Closed}
 use Rattle.pool_world.specs.declared.interleave.event.Event.{Event}
 use Rattle.pool_world.specs.declared.interleave.event.Event.TheVariants as event
 use Rattle.pool_world.specs.declared.interleave.event.Seen.{Seen}
@@ -223,6 +223,7 @@ module _ {T : Type 0} {Leaves : T → T → Type 0} {first : List T} {log : Log 
     make_page-does a (Err Init) (Some (Making k)) at row = goes at (LacksValues k) row
     make_page-does a (Ok values) _ at row = unable (λ has. has) row
     make_page-does a (Err Limit) _ at row = unable (λ has. has) row
+    make_page-does a (Err Closed) _ at row = unable (λ has. has) row
     make_page-does a (Err Memory) _ at row = unable (λ has. has) row
     make_page-does a (Err Init) _ at row = unable (λ has. has) row
 

@@ -2,7 +2,7 @@
 use Rattle.std.proofs.Common.{◌≡◌, ℕ, Option, Some, None, Result, Ok, Err, refl}
 use Rattle.std.specs.Prelude.{List}
 use Rattle.pool_parts.specs.declared.pull_error.PullError.{PullError}
-use Rattle.pool_parts.specs.declared.pull_error.PullError.TheVariants.{Memory, Init, Limit}
+use Rattle.pool_parts.specs.declared.pull_error.PullError.TheVariants.{Memory, Init, Limit, Closed}
 use Rattle.pool_world.specs.World.State.{WorldState}
 use Rattle.pool_world.specs.World.Machine.{read_mask, read_hinted, clear_bit, clear_hinted, read_next, make_page}
 use Rattle.pool_world.specs.World.Machine.{exchange_next, move_out, write, or_mask, MovesHome, IsOutcome}
@@ -50,6 +50,7 @@ module _ {T : Type 0} (world : WorldState T) (a : ℕ) where
   makes_only_at_making (Err Memory) _ other = (refl, refl)
   makes_only_at_making (Err Init) _ other = (refl, refl)
   makes_only_at_making (Err Limit) _ other = (refl, refl)
+  makes_only_at_making (Err Closed) _ other = (refl, refl)
 
   pub links_only_at_linking : (at : Option (Point T))
       → ((k : ℕ) (values : List T) → at ≡ Some (Linking k values) → ⊥)

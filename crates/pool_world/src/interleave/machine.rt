@@ -392,7 +392,7 @@ impl<T: Drop> Machine<T> {
                 self.agents[agent] = Point::Linking(page, values);
                 Seen::Made(agent)
             }
-            Err(PullError::Limit) => Seen::NotEnabled,
+            Err(PullError::Limit | PullError::Closed) => Seen::NotEnabled,
             Err(cause) => {
                 self.go(agent, Point::Ended);
                 Seen::Refused(agent, cause)

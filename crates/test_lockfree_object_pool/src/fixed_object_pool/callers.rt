@@ -90,7 +90,7 @@ fn refused_while_out<'p>(
 ) -> Option<BusySeen<'p, usize>>
     requires { number < (fixed_view pool.now).items }
     ensures { IfSome result (λ busy.
-        WasOutBetween (fixed_view pool.now).opening busy.known.since
+        WasOutBetween (fixed_view pool.now).opening busy.known.at_load
         busy.known.operations number) }
 {
     match pool.try_pull(pass) {

@@ -4,6 +4,7 @@ ghost use Rattle.std.specs.Prelude.{◌≤◌};
 use super::pulls::{Fixed, Lazy, Linear, Near, Pulls, Stack, Stacked, Waiting, WaitingOwner, Zero};
 use super::task::{Kind, Task, Work};
 use super::turns::{be_refused, hold, pull_and_drop, total};
+use super::workers::HasWorkers;
 use crate::shared::shared;
 use anyhow::Result;
 use lockfree_object_pool::clean::AnyValue;
@@ -40,6 +41,9 @@ pub fn measure<R: Clock + Threads + Wait + AllocGlobal + Copy + Send + Sync>(
     rt: &R,
     task: Task,
 ) -> Result<Measured> {
+    if let Work::Worker { threads } = task.work {
+        return measure_workers(rt, task, threads);
+    }
     match task.kind {
         Kind::Linear => measure_linear(rt, task),
         Kind::SpinLock => {
@@ -54,6 +58,19 @@ pub fn measure<R: Clock + Threads + Wait + AllocGlobal + Copy + Send + Sync>(
         Kind::FixedNear => measure_fixed_near(rt, task),
         Kind::Lazy => measure_lazy(rt, task),
         Kind::LazyWait => measure_lazy_waiting(rt, task),
+    }
+}
+
+/// Does the task by workers of a new pool.
+fn measure_workers<R: Clock + Threads + AllocGlobal + Sync>(
+    rt: &R,
+    task: Task,
+    threads: usize,
+) -> Result<Measured> {
+    match task.kind {
+        Kind::Fixed => measure_work(rt, &*new_fixed(rt.alloc(), task)?, threads, task.turns),
+        Kind::Lazy => measure_work(rt, &*new_lazy(rt.alloc(), task)?, threads, task.turns),
+        _ => measure_work(rt, &*new_linear(rt.alloc())?, threads, task.turns),
     }
 }
 
@@ -167,7 +184,9 @@ fn measure_pulls<R: Clock + Threads + AllocGlobal + Sync, P: Pulls<R> + Sync, Q:
             let _held = hold(rt, rt.alloc(), pool, held)?;
             measure_share(rt, pool, threads, task.turns)
         }
-        Work::Wait { threads, items: _ } => measure_share(rt, pool, threads, task.turns),
+        Work::Wait { threads, items: _ } | Work::Worker { threads } => {
+            measure_share(rt, pool, threads, task.turns)
+        }
         Work::Refuse => measure_refusals(rt, pool, task.turns),
         Work::Hold => measure_hold(rt, pool, task.turns as usize),
     }
@@ -213,6 +232,23 @@ fn measure_share<R: Clock + Threads + AllocGlobal + Sync, P: Pulls<R> + Sync>(
     let one_thread = |thread: usize| pull_and_drop(rt, pool, thread, turns);
     let start = Instant::now(rt)?;
     let sums = thread::map_indices(rt, rt.alloc(), threads, &one_thread)?;
+    let time = start.elapsed(rt)?;
+    Ok(Measured {
+        sum: total(sums)?,
+        time,
+    })
+}
+
+/// The turns of so many workers, beside each other.
+fn measure_work<R: Clock + Threads + AllocGlobal + Sync, P: HasWorkers + Sync>(
+    rt: &R,
+    pool: &P,
+    threads: usize,
+    turns: u64,
+) -> Result<Measured> {
+    let one_worker = |_: usize| pool.work(turns);
+    let start = Instant::now(rt)?;
+    let sums = thread::map_indices(rt, rt.alloc(), threads, &one_worker)?;
     let time = start.elapsed(rt)?;
     Ok(Measured {
         sum: total(sums)?,

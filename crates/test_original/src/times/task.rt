@@ -30,6 +30,8 @@ pub enum Work {
     Refuse,
     /// So many threads wait for so few items of a lazy pool, each in all turns.
     Wait { threads: usize, items: usize },
+    /// So many threads pull and drop, each in all turns by a worker of its own.
+    Worker { threads: usize },
 }
 
 /// A measurement.
@@ -63,6 +65,7 @@ impl fmt::Display for Work {
             Work::Hold => write!(f, "hold"),
             Work::Refuse => write!(f, "refuse"),
             Work::Wait { threads, items } => write!(f, "wait {threads} {items}"),
+            Work::Worker { threads } => write!(f, "worker {threads}"),
         }
     }
 }
@@ -75,8 +78,8 @@ impl fmt::Display for Task {
     }
 }
 
-/// Reads the task that words ask for. Refused pulls are for the fixed pool only, and waiting is for
-/// the lazy pool.
+/// Reads the task that words ask for. Refused pulls are for the fixed pool only, waiting is for the
+/// lazy pool, and workers are of the linear, the fixed and the lazy pool.
 pub fn task_of(words: &[&str]) -> Option<Task> {
     let [kind, work @ .., turns] = words else {
         return None;
@@ -85,6 +88,7 @@ pub fn task_of(words: &[&str]) -> Option<Task> {
     let is_asked = match work {
         Work::Refuse => kind == Kind::Fixed,
         Work::Wait { threads: _, items } => kind == Kind::LazyWait && items > 0,
+        Work::Worker { threads: _ } => matches!(kind, Kind::Linear | Kind::Fixed | Kind::Lazy),
         _ => true,
     };
     if !is_asked {
@@ -114,17 +118,18 @@ fn work_of(words: &[&str]) -> Option<Work> {
     match words {
         ["hold"] => Some(Work::Hold),
         ["refuse"] => Some(Work::Refuse),
-        [word, held] => work_of_one(word, held.parse().ok()?),
+        [word, count] => work_of_count(word, count.parse().ok()?),
         [word, threads, count] => work_of_threads(word, threads.parse().ok()?, count.parse().ok()?),
         _ => None,
     }
 }
 
-/// The work of one thread that a word names, while so many items are held.
-fn work_of_one(word: &str, held: usize) -> Option<Work> {
+/// The work that a word names, by one thread while so many items are held, or by so many workers.
+fn work_of_count(word: &str, count: usize) -> Option<Work> {
     match word {
-        "pull" => Some(Work::Pull { held }),
-        "pull_owned" => Some(Work::PullOwned { held }),
+        "pull" => Some(Work::Pull { held: count }),
+        "pull_owned" => Some(Work::PullOwned { held: count }),
+        "worker" => Some(Work::Worker { threads: count }),
         _ => None,
     }
 }

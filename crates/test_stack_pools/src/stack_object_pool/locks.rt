@@ -3,6 +3,7 @@
 use super::waits::wait_for;
 use super::*;
 use crate::assert_equal::assert_equal;
+use lockfree_object_pool::kept_stack::sections::Counts;
 use lockfree_object_pool::stack::Room;
 use std::thread;
 use std::thread::{JoinHandle, Threads};
@@ -69,14 +70,15 @@ impl Lockable for Mutex<Stack<u32, AnyValue>> {
     }
 }
 
-impl Lockable for SpinLock<Stack<u32, AnyValue>> {
+impl Lockable for KeptStack<u32, AnyValue> {
     fn new_list(alloc: Global) -> Option<Self> {
-        SpinLock::new(alloc, Stack::new()).ok()
+        KeptStack::new(alloc)
     }
 
     fn lock_during<W: Wait>(&self, rt: &W, steps: &Steps) {
-        let _guard = self.lock(rt);
+        let (stack, turn) = self.lock(rt);
         steps.hold();
+        drop(turn.release::<Counts>(stack));
     }
 }
 
@@ -98,10 +100,10 @@ fn take_meanwhile<
     let steps = Arc::new(alloc, Steps::new()).expect(rt, "memory is left");
     let holder = hold_elsewhere(rt, list, &steps).expect(rt, "a thread is made");
     let held = steps.begin();
-    let (value, room) = list.take(rt).expect(rt, "5 is kept");
+    let (value, room) = list.take(rt).0.expect(rt, "5 is kept");
     steps.end();
     holder.join(rt);
-    assert_equal(rt, (held, value, list.count(rt)), (true, 5, 0));
+    assert_equal(rt, (held, value, list.count(rt).0), (true, 5, 0));
     room
 }
 
@@ -113,7 +115,7 @@ fn put_meanwhile<
     let steps = Arc::new(alloc, Steps::new()).expect(rt, "memory is left");
     let holder = hold_elsewhere(rt, list, &steps).expect(rt, "a thread is made");
     assert!(rt; steps.begin());
-    list.give(rt, room, 6);
+    list.give(rt, list.note(), room, 6);
     steps.end();
     holder.join(rt);
 }
@@ -130,7 +132,7 @@ fn count_meanwhile<
     if clears {
         list.clear(rt);
     }
-    let count = list.count(rt);
+    let count = list.count(rt).0;
     steps.end();
     holder.join(rt);
     count
@@ -142,16 +144,17 @@ fn waits_for_the_lock<
 >(rt: &W, alloc: Global) {
     let list = F::new_list(alloc).expect(rt, "memory is left");
     let list = Arc::new(alloc, list).expect(rt, "memory is left");
-    list.give(rt, Room::new(alloc).expect(rt, "memory is left"), 5);
+    let room = Room::new(alloc).expect(rt, "memory is left");
+    list.give(rt, list.note(), room, 5);
     let room = take_meanwhile(rt, alloc, &list);
     put_meanwhile(rt, alloc, &list, room);
-    assert_equal(rt, list.take(rt).map(|taken| taken.0), Some(6));
+    assert_equal(rt, list.take(rt).0.map(|taken| taken.0), Some(6));
 }
 
 #[test]
 fn a_take_and_a_put_wait_for_the_lock(rt: HostRuntime) {
     waits_for_the_lock::<Mutex<Stack<u32, AnyValue>>, _>(&rt, rt.alloc());
-    waits_for_the_lock::<SpinLock<Stack<u32, AnyValue>>, _>(&rt, rt.alloc());
+    waits_for_the_lock::<KeptStack<u32, AnyValue>, _>(&rt, rt.alloc());
 }
 
 fn counts_and_clears_under_the_lock<
@@ -160,7 +163,8 @@ fn counts_and_clears_under_the_lock<
 >(rt: &W, alloc: Global) {
     let list = F::new_list(alloc).expect(rt, "memory is left");
     let list = Arc::new(alloc, list).expect(rt, "memory is left");
-    list.give(rt, Room::new(alloc).expect(rt, "memory is left"), 5);
+    let room = Room::new(alloc).expect(rt, "memory is left");
+    list.give(rt, list.note(), room, 5);
     assert_equal(rt, count_meanwhile(rt, alloc, &list, false), 1);
     assert_equal(rt, count_meanwhile(rt, alloc, &list, true), 0);
 }
@@ -168,5 +172,5 @@ fn counts_and_clears_under_the_lock<
 #[test]
 fn a_count_and_a_clear_wait_for_the_lock(rt: HostRuntime) {
     counts_and_clears_under_the_lock::<Mutex<Stack<u32, AnyValue>>, _>(&rt, rt.alloc());
-    counts_and_clears_under_the_lock::<SpinLock<Stack<u32, AnyValue>>, _>(&rt, rt.alloc());
+    counts_and_clears_under_the_lock::<KeptStack<u32, AnyValue>, _>(&rt, rt.alloc());
 }

@@ -49,6 +49,30 @@ fn owned_reusables_sent<
     sent(spin_lock);
 }
 
+/// A borrowed reusable over a list that may be shared.
+fn borrowed_shared<
+    T: Send + Sync + Drop,
+    I: Init<T, K> + Send + Sync,
+    R: Reset<T, K> + Send + Sync,
+    K: Clean<T> + Send,
+    F: FreeList<T, MadeOrReset<I, R, K>> + Send + Sync,
+    W: Wait + Copy + Send + Sync,
+>(item: &StackReusable<T, &StackObjectPool<T, I, R, K, F>, W>) {
+    shared(item);
+}
+
+/// An owned reusable over a list that may be shared.
+fn owned_shared<
+    T: Send + Sync + Drop,
+    I: Init<T, K> + Send + Sync,
+    R: Reset<T, K> + Send + Sync,
+    K: Clean<T> + Send,
+    F: FreeList<T, MadeOrReset<I, R, K>> + Send + Sync,
+    W: Wait + Copy + Send + Sync,
+>(item: &StackReusable<T, Arc<StackObjectPool<T, I, R, K, F>>, W>) {
+    shared(item);
+}
+
 fn reusables_shared<
     T: Send + Sync + Drop,
     I: Init<T, K> + Send + Sync,
@@ -56,8 +80,8 @@ fn reusables_shared<
     K: Clean<T> + Send,
     W: Wait + Copy + Send + Sync,
 >(mutex: &MutexReusable<'_, T, I, R, K, W>, spin_lock: &SpinLockReusable<'_, T, I, R, K, W>) {
-    shared(mutex);
-    shared(spin_lock);
+    borrowed_shared(mutex);
+    borrowed_shared(spin_lock);
 }
 
 fn owned_reusables_shared<
@@ -67,8 +91,8 @@ fn owned_reusables_shared<
     K: Clean<T> + Send,
     W: Wait + Copy + Send + Sync,
 >(mutex: &MutexOwnedReusable<T, I, R, K, W>, spin_lock: &SpinLockOwnedReusable<T, I, R, K, W>) {
-    shared(mutex);
-    shared(spin_lock);
+    owned_shared(mutex);
+    owned_shared(spin_lock);
 }
 
 /// The same for any free list that may be shared.
@@ -85,6 +109,6 @@ fn shared_over_a_list<
 ) {
     sent(item);
     sent(owned);
-    shared(item);
-    shared(owned);
+    borrowed_shared(item);
+    owned_shared(owned);
 }

@@ -6,4 +6,5 @@ use Rattle.one_pool.proofs.two_items.return_two.Goals as goal
 pub returns : goal.returns
 returns g c =
     returns-together pool_user pool_users _ _ _ _ _ _ _ _ _ _ _ _ c.requires.apart c.requires.one
-    c.requires.other c.give_back-of_one.ensures c.give_back-of_other.ensures
+    c.requires.other c.give_back-of_one.ensures.given c.give_back-of_other.ensures.given
+    c.give_back-of_one.ensures.each_returned c.give_back-of_other.ensures.each_returned

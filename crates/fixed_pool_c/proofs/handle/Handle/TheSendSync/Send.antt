@@ -11,24 +11,24 @@ use Rattle.std_alloc.proofs.SendSync.{quiet, lies}
 use Rattle.std.proofs.Crossing.{frees}
 use Rattle.std_heap.specs.contracts.Global as heap
 use Rattle.std_heap.specs.declared.Global.{Global}
-use Rattle.fixed_pool_c.specs.HandleOwns.{last_owns, handle_owns}
-use Rattle.fixed_pool_c.specs.contracts.held.Held as held
-use Rattle.fixed_pool_c.proofs.held.Held.TheSendSync.{the_send}
-use Rattle.fixed_pool_c.proofs.held.Last.TheSendSync as last
-use Rattle.fixed_pool_c.specs.declared.held.Held.{Held}
-use Rattle.fixed_pool_c.specs.declared.held.Last.{Last}
+use Rattle.fixed_pool_c.specs.HandleOwns.{final_note_owns, handle_owns}
+use Rattle.fixed_pool_c.specs.contracts.open_handle.OpenHandle as held
+use Rattle.fixed_pool_c.proofs.open_handle.OpenHandle.TheSendSync.{the_send}
+use Rattle.fixed_pool_c.proofs.open_handle.FinalNote.TheSendSync as last
+use Rattle.fixed_pool_c.specs.declared.open_handle.OpenHandle.{OpenHandle}
+use Rattle.fixed_pool_c.specs.declared.open_handle.FinalNote.{FinalNote}
 use Rattle.fixed_pool_c.specs.contracts.handle.Handle.{the_row, the_type}
 
-kept : (l : Option Last) → Keyless (last_owns l)
+kept : (l : Option FinalNote) → Keyless (final_note_owns l)
 kept None = tt
 kept (Some l) = λ values. last.the_send.owned l values
 
-owned : IsSend held.the_row → (a : Global) (p : Ptr) (x : Option Held) (l : Option Last)
+owned : IsSend held.the_row → (a : Global) (p : Ptr) (x : Option OpenHandle) (l : Option FinalNote)
     → Keyless (handle_owns a p x l)
 owned s a p None l = λ _. kept l
 owned s a p (Some x) l = (lies held.the_row s p x, frees.frees a (raw (lone held.the_row.mir)) p)
 
 pub send : IsSend the_row
 send = let ps : IsSend RawPtr = search sendable in let gs : IsSend heap.the_field.row = search sendable in
-    owning_send the_type (ps, (gs, tt)) (λ d. owned the_send d.alloc d.at d.held d.last)
+    owning_send the_type (ps, (gs, tt)) (λ d. owned the_send d.alloc d.at d.held d.final_note)
     (λ k. quiet (to the_type) (exits_of k (fields the_type)) ((struct_send (shape the_type) (ps, (gs, tt))).leaving k))

@@ -46,8 +46,8 @@ closed_spec 𝓤 𝓛 𝓜 𝓡 wired =
       alloc = a;
       held =
           None;
-      last = Some kept;
-    } in let Told : Type 0 = (v.held ≡ None) × (v.last ≡ Some kept) in
+      final_note = Some kept;
+    } in let Told : Type 0 = (v.held ≡ None) × (v.final_note ≡ Some kept) in
     suffices ! (Run (h ∷ n ∷ [])) (subst (λ (us : List Val). ent 𝓤 (Run (h ∷ n ∷ [])) (Run us)) (sym
     (λ i. ws i ++ (ns i ++ []))) (id⊢ 𝓤 (Run (h ∷ n ∷ [])))) $
     enter ! 𝓣.C 𝓣.Λ fn (h ∷ n ∷ []) Post $ alloc_all ! (λ l. pass_all ! refl (fits, (good, tt)) $

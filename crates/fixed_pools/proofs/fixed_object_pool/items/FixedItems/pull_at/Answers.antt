@@ -1,11 +1,15 @@
-use Rattle.std.proofs.Common.{◌∙◌}
-use Rattle.pool_parts.proofs.Views.{starts_new}
-use Rattle.fixed_pools.proofs.FixedAnswers.{item_pulled}
+use Rattle.std.proofs.Common.{arith}
+use Rattle.fixed_pools.proofs.FixedAnswers.{begins_new, item_pulled}
 use Rattle.fixed_pools.proofs.fixed_object_pool.items.FixedItems.pull_at.Goals as goal
 
-pub returns-clause-pulled : goal.returns-clause-pulled
-returns-clause-pulled g c =
-    let looked = c.look-word.ensures.found in
-    let took = c.in_ok-value.ensures.outcome.0 in
-    item_pulled g.K.Clean.meets _ _ _ _ _ _ _ (starts_new _ _ _ _ _ took.goes_on.same_user looked) looked.sound took
-    (c.clear.ensures.items ∙ c.look-word.ensures.items)
+pub returns : goal.returns
+returns g c =
+    let took = c.in_ok-value.ensures.outcome in
+    item_pulled g.K.Clean.meets _ 1 1 _ c.look-word.result.1 _
+    (begins_new _ _ _ _ _ _ c.look-word.ensures.items took.0.goes_on.same_user c.look-word.ensures.found) took.0
+    (record {
+      same_pool = c.clear.ensures.items;
+      loads = omega (arith, took.1);
+      tries = omega (arith, took.2);
+    })
+    (omega (arith, c.requires.in_pool))

@@ -18,6 +18,7 @@ returns-in-Some-clear-clause-outcome g c =
           (32 * c.args.page + c.in-Some.bit, None) ∷ l) (before.carries_none ∙ sym c.requires.ready.carries_none);
       goes_on = goes_on_further _ _ _ _ before.follows
           took.0.goes_on;
+      each_returned = took.0.each_returned;
     }
 
 pub loop-rest-preserved : goal.loop-rest-preserved

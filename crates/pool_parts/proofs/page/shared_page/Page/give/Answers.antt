@@ -2,5 +2,5 @@ use Rattle.std.proofs.Common.{refl}
 use Rattle.pool_parts.proofs.PageAnswers.{returned}
 use Rattle.pool_parts.proofs.page.shared_page.Page.give.Goals as goal
 
-pub returns : goal.returns
-returns g c = returned _ _ _ _ _ _ refl c.give-seat.ensures.items c.give-seat.ensures.returned
+pub returns-clause-returned : goal.returns-clause-returned
+returns-clause-returned g c = returned _ _ _ _ _ _ refl c.give-seat.ensures.items c.give-seat.ensures.returned

@@ -7,7 +7,7 @@ use Rattle.std.proofs.lemmas.Bool.Decides.{nat_tests}
 use Rattle.std.proofs.lemmas.Grind.{common_steps}
 use Rattle.std.proofs.lemmas.Option.{gets}
 use Rattle.pool_parts.specs.declared.pull_error.PullError.{PullError}
-use Rattle.pool_parts.specs.declared.pull_error.PullError.TheVariants.{Memory, Init, Limit}
+use Rattle.pool_parts.specs.declared.pull_error.PullError.TheVariants.{Memory, Init, Limit, Closed}
 use Rattle.pool_world.specs.World.State.{WorldState}
 use Rattle.pool_world.specs.World.Machine.{at_point, make_page, IsOutcome}
 use Rattle.pool_world.specs.declared.interleave.event.Seen.TheVariants.{Refused}
@@ -16,12 +16,13 @@ use Rattle.pool_world.proofs.World.LinkCapacity.{room-more, room-made}
 use Rattle.pool_world.proofs.World.NotEnabled.{makes_only_at_making}
 use Rattle.pool_world.proofs.interleave.machine.Machine.make_page.Goals as goal
 
--- a page that isn't made ends its agent, where the cause isn't the limit
-refuses_at_making : {T : Type 0} (world : WorldState T) (a k : ℕ) (cause : PullError) → cause ≢ Limit
+-- a page that isn't made ends its agent, where the cause is neither the limit nor that a pool is closed
+refuses_at_making : {T : Type 0} (world : WorldState T) (a k : ℕ) (cause : PullError) → cause ≢ Limit → cause ≢ Closed
     → IsOutcome (make_page world a (Err cause) (Some (Making k))) (Refused a cause) (at_point world a Ended)
-refuses_at_making world a k Memory other = (refl, refl)
-refuses_at_making world a k Init other = (refl, refl)
-refuses_at_making world a k Limit other = absurd (other refl)
+refuses_at_making world a k Memory unlimited opened = (refl, refl)
+refuses_at_making world a k Init unlimited opened = (refl, refl)
+refuses_at_making world a k Limit unlimited opened = absurd (unlimited refl)
+refuses_at_making world a k Closed unlimited opened = absurd (opened refl)
 
 -- what holds where a call succeeds holds here, since it did
 succeeded : {A E P : Type 0} (r : Result A E) → is_ok r ≡ true → OnOk r P → P
@@ -56,9 +57,10 @@ pub returns-in-Err-clause-step : goal.returns-in-Err-clause-step
 returns-in-Err-clause-step g c =
     let at : slice_get c.self.inside.agents.items c.args.agent ≡ Some (Making c.in-Some-Making.page) =
     grind (arith, common_steps, gets, c.in-Some-Making.ensures.lookup) in
-    let other : c.in-Err.cause ≢ Limit = λ is. grind (arith, common_steps, is) in
+    let unlimited : c.in-Err.cause ≢ Limit = λ is. grind (arith, common_steps, is) in
+    let opened : c.in-Err.cause ≢ Closed = λ is. grind (arith, common_steps, is) in
     let gone = rw (← c.self.view_is) at c.go.ensures.state in
-    rw (← c.self.view_is) (inl (rw at (rw (c.in-Err.is, gone) (refuses_at_making _ _ _ _ other))))
+    rw (← c.self.view_is) (inl (rw at (rw (c.in-Err.is, gone) (refuses_at_making _ _ _ _ unlimited opened))))
 
 pub invariant_of-self : goal.invariant_of-self
 invariant_of-self g c =

@@ -1,0 +1,89 @@
+//! Workers of a lazy pool.
+ghost use Rattle.std.specs.Prelude.{◌≡◌, ◌<◌, None, ⊤};
+
+use crate::worker_place::WorkerPlace;
+use lazy_pools::LazyObjectPool;
+use lazy_pools::near::Near;
+use pool_parts::PullError;
+use pool_parts::clean::{AnyValue, Clean};
+use pool_parts::closures::{Init, Reset};
+use pool_parts::page::inside::Holding;
+use std::marker::Model;
+
+/// What a user has of an item of a lazy pool, apart from the item's value.
+#[derive(Drop)]
+pub struct LazyHeld<'p, T, I: Init<T, K>, R: Reset<T, K>, K: Clean<T> = AnyValue> {
+    pool: &'p LazyObjectPool<T, I, R, K>,
+    holding: Holding<Option<T>>,
+}
+
+impl<'p, T, I: Init<T, K>, R: Reset<T, K>, K: Clean<T>> Model for LazyHeld<'p, T, I, R, K> {
+    ghost use Rattle.std.specs.Prelude.{◌≡◌, ◌<◌, Option};
+    ghost use Rattle.lazy_pools.specs.LazyPool.{LazyView, lazy_view};
+    ghost use Rattle.pool_parts.specs.Page.{view_of};
+    ghost use Rattle.pool_workers.specs.Workers.{HeldView};
+
+    ghost Value = { HeldView (LazyView T I R) (Option T) };
+
+    ghost view = { λ held.
+        record {
+          pool = lazy_view held.pool.now;
+          page = held.holding.seat.table_id;
+          id = held.holding.number;
+          known = view_of held.holding.seat;
+        } };
+
+    ghost invariant = { λ held.
+        (held.holding.seat.table_id ≡ (lazy_view held.pool.now).identity)
+        × (held.holding.number < (lazy_view held.pool.now).items) };
+}
+
+impl<'p, T: Drop, I: Init<T, K>, R: Reset<T, K>, K: Clean<T>> LazyHeld<'p, T, I, R, K> {
+    /// Returns the number of the item in its pool, counted from 0.
+    pub fn number(&self) -> usize
+        ensures value { result ≡ self.now.id }
+        ensures in_pool { result < self.now.pool.items }
+        ensures of_pool { self.now.page ≡ self.now.pool.identity }
+    {
+        self.holding.number
+    }
+}
+
+impl<'p, T: Drop, I: Init<T, K>, R: Reset<T, K>, K: Clean<T>> WorkerPlace<T>
+    for Near<'p, T, I, R, K> {
+    ghost use Rattle.lazy_pools.specs.LazyPool.{lazy_view};
+    ghost use Rattle.pool_parts.specs.Answers.{IsMadeOrReset, RefusesOrClosed};
+    ghost use Rattle.pool_workers.specs.Workers.{IsPulledFromLazy};
+
+    type Held = LazyHeld<'p, T, I, R, K>;
+
+    ghost is_pulled = { IsPulledFromLazy K.meets I.answers R.leaves };
+
+    ghost keeps = { λ value. K.meets value × IsMadeOrReset I.answers R.leaves value };
+
+    ghost refuses = { λ place. RefusesOrClosed ⊥ (I.answers (lazy_view place.pool.now).init None) ⊤ };
+
+    #[inline(always)]
+    fn pull(&self) -> Result<(LazyHeld<'p, T, I, R, K>, T), PullError> {
+        let pool = self.pool;
+        let (holding, value) = pool.pull_apart(self.page_number())?;
+        Ok((LazyHeld { pool, holding }, value))
+    }
+
+    #[inline(always)]
+    fn reset(held: LazyHeld<'p, T, I, R, K>, value: T) -> Option<(LazyHeld<'p, T, I, R, K>, T)> {
+        match held.pool.try_reset(value) {
+            Some(left) => Some((held, left)),
+            None => {
+                let LazyHeld { pool, holding } = held;
+                pool.give_reset(holding, None);
+                None
+            }
+        }
+    }
+
+    fn give_back(held: LazyHeld<'p, T, I, R, K>, value: T) {
+        let LazyHeld { pool, holding } = held;
+        pool.give_reset(holding, Some(value));
+    }
+}

@@ -1,0 +1,64 @@
+//! Workers that go to a thread, with the item that they keep.
+use crate::assert_equal::assert_equal;
+use crate::pools::{Counting, fixed_of, lazy_of};
+use fixed_pools::near::Near as FixedNear;
+use lazy_pools::near::Near as LazyNear;
+use pool_workers::Worker;
+use std::thread;
+use std::thread::Threads;
+use test_values::tallied::{Tallied, TalliedValues};
+use test_values::tally::new_tally;
+
+/// A worker of a fixed pool, and one of a lazy pool.
+type FixedWorker<'p> = Worker<Tallied, FixedNear<'p, Tallied, TalliedValues, Counting>>;
+
+type LazyWorker<'p> = Worker<Tallied, LazyNear<'p, Tallied, TalliedValues, Counting>>;
+
+/// Returns the call that made the item that a worker pulls, and then keeps.
+fn pull_fixed(worker: &FixedWorker<'_>) -> Option<usize> {
+    Some(worker.pull().ok()?.number)
+}
+
+/// The same by a worker of a lazy pool.
+fn pull_lazy(worker: &LazyWorker<'_>) -> Option<usize> {
+    Some(worker.pull().ok()?.number)
+}
+
+/// Pulls by a worker, which ends then.
+fn end_fixed(worker: FixedWorker<'_>) -> Option<usize> {
+    pull_fixed(&worker)
+}
+
+/// The same by a worker of a lazy pool.
+fn end_lazy(worker: LazyWorker<'_>) -> Option<usize> {
+    pull_lazy(&worker)
+}
+
+/// Sends each worker to a thread of its own, where it pulls and ends. Returns the calls that made
+/// what they pulled.
+fn pull_elsewhere<R: Threads>(
+    rt: &R,
+    fixed: FixedWorker<'_>,
+    lazy: LazyWorker<'_>,
+) -> (Option<usize>, Option<usize>) {
+    thread::join(rt, || end_fixed(fixed), || end_lazy(lazy))
+}
+
+#[test]
+fn a_worker_goes_to_a_thread_with_the_item_that_it_keeps(rt: HostRuntime) {
+    let tally = new_tally(rt.alloc()).expect(&rt, "memory is left");
+    let fixed = fixed_of(rt.alloc(), &tally, 1).expect(&rt, "a pool is made");
+    let lazy = lazy_of(rt.alloc(), &tally, 1).expect(&rt, "a pool is made");
+    let (one, other) = (Worker::new(fixed.near()), Worker::new(lazy.near()));
+    assert_equal(
+        &rt,
+        (pull_fixed(&one), pull_lazy(&other)),
+        (Some(0), Some(1)),
+    );
+    assert_equal(&rt, pull_elsewhere(&rt, one, other), (Some(0), Some(1)));
+    assert_equal(&rt, (tally.resets(), lazy.in_use()), (4, 0));
+    assert_equal(&rt, fixed.pull().is_ok(), true);
+    drop(fixed);
+    drop(lazy);
+    assert_equal(&rt, tally.now(), (2, 2));
+}
