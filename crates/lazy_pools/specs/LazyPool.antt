@@ -46,7 +46,8 @@ module _ {T I R K : Type 0} where
       }
 
 module _ {T I R : Type 0} where
-  -- a new user pulled an item of this pool: its value lay there, or this call made it, and it meets the pool's condition
+  -- a new user pulled an item of this pool: its value lay there, or this call made it, and it meets the pool's
+  -- condition
   pub record PullsMade (meets : T → Type 0) (pool : LazyView T I R) (is_made : T → Type 0) (item : Item (Option T))
       (value : T) : Type 0 where
     -- what the pull found at the item's place
@@ -76,8 +77,8 @@ RefusesOnePass pool opening may_answer_none (Busy busy) =
 RefusesOnePass pool opening may_answer_none NotMade = may_answer_none
 RefusesOnePass pool opening may_answer_none Closed = ⊤
 
--- a pull by a closure gave no item, only if it may lack memory or may find the pool full: it was so at one moment; or the
--- closure failed with this cause, or the pool was closed
+-- a pull by a closure gave no item, only if it may lack memory or may find the pool full: it was so at one moment; or
+-- the closure failed with this cause, or the pool was closed
 abbrev pub RefusesWith : {T I R E : Type 0} → LazyView T I R → (may_lack_memory may_be_full : Type 0) → (E → Type 0)
     → PullWithError T E → Type 0
 RefusesWith pool may_lack_memory may_be_full fails_with With.Memory = may_lack_memory

@@ -18,8 +18,8 @@ use std::sync::Arc;
 
 /// A pulled value. Its drop resets it and returns it to its page, which is found by its number.
 ///
-/// In a clause it is the pool, the number of the item's page, the item, and the values that the page
-/// opened with.
+/// In a clause it is the pool, the number of the item's page, the item, and the values that the
+/// page opened with.
 ///
 /// # Examples
 ///

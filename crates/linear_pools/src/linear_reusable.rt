@@ -15,8 +15,8 @@ use std::ops::{Deref, DerefMut};
 
 /// A pulled value. Its drop resets it and returns it to its page.
 ///
-/// In a clause it is the pool, the number of the item's page, the item, and the values that the page
-/// opened with.
+/// In a clause it is the pool, the number of the item's page, the item, and the values that the
+/// page opened with.
 ///
 /// # Examples
 ///

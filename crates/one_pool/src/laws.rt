@@ -66,8 +66,8 @@ pub fn runs<T, R: Reset<T, K>, K: Clean<T>>()
         → AllowsPages limit (pages_of acts) → HasRun (R.leaves reset) limit first acts }
 {}
 
-/// Shows that a legal history of one pool that grows is a list of moves of the sequential pool, each
-/// by who holds the number, and that such moves are a legal history.
+/// Shows that a legal history of one pool that grows is a list of moves of the sequential pool,
+/// each by who holds the number, and that such moves are a legal history.
 pub fn moves<T>()
     ensures leads { (first : List T) (acts : List (Act T)) → length first ≡ PAGE_ITEMS
         → AreLegalActs first acts → AreByHolders acts × LeadTo first acts (pool_of first acts) }

@@ -72,8 +72,8 @@ pub trait Reset<T, K: Clean<T>>: Drop {
     /// rejects none.
     ///
     /// The lazy and the stack pools call it at each return, and don't keep a rejected value. Its
-    /// place in a lazy pool is empty, and a later pull makes another value. The linear and the fixed
-    /// pools call `reset`.
+    /// place in a lazy pool is empty, and a later pull makes another value. The linear and the
+    /// fixed pools call `reset`.
     ///
     /// # Examples
     ///

@@ -7,8 +7,8 @@ use std::fmt::{self, Debug, Formatter, Write};
 use std::marker::Model;
 use std::ops::{Deref, DerefMut};
 
-/// A value that a worker pulled. Its drop resets it, and the worker keeps the item, or returns it to
-/// the pool if it keeps another.
+/// A value that a worker pulled. Its drop resets it, and the worker keeps the item, or returns it
+/// to the pool if it keeps another.
 ///
 /// In a clause it is what the worker has of the item, and the value.
 ///

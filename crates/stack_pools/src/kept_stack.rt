@@ -51,8 +51,8 @@ impl<T: Drop, K: Clean<T>> KeptStack<T, K> {
         Some(KeptStack { lock })
     }
 
-    /// Takes the lock, and waits while another has it. The stack comes back with one operation more,
-    /// by the turn's release.
+    /// Takes the lock, and waits while another has it. The stack comes back with one operation
+    /// more, by the turn's release.
     pub fn lock<W: Wait>(&self, rt: &W) -> (Stack<T, K>, StackTurn<'_, T, K>)
         ensures of { result.1.table ≡ self.now }
         ensures left { Leaves result.1.history result.0 }

@@ -10,9 +10,9 @@
 //! 1.
 //!
 //! Where each of as many threads as a fixed pool has items has one at a time, no pull may be
-//! refused: a line tells. Another one tells how often the closure of a pull was called though a value
-//! was kept: never. The last one tells whether a thread that waits for the only item of a lazy
-//! pool has it once it is returned, also where nothing is returned later.
+//! refused: a line tells. Another one tells how often the closure of a pull was called though a
+//! value was kept: never. The last one tells whether a thread that waits for the only item of a
+//! lazy pool has it once it is returned, also where nothing is returned later.
 //!
 //! Behind the threads each pool is asked for all its items: those that were not forgotten come, and
 //! of a pool that has a limit no more.

@@ -97,8 +97,8 @@ fn used_as_kept<
     Ok(report)
 }
 
-/// Runs eight threads on a stack pool, whatever its list. That its items may be sent is found here, and
-/// not at the type of one pool.
+/// Runs eight threads on a stack pool, whatever its list. That its items may be sent is found here,
+/// and not at the type of one pool.
 fn used_over_list<
     T: Item + Send + 'static,
     F: FreeList<T, StackedItems> + Send + Sync + 'static,
