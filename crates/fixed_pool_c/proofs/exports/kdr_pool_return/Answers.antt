@@ -1,3 +1,5 @@
+-- That a handle which holds no place stays as it was, and that one which holds a place holds none
+-- after the return, which is the last operation that it knows.
 use Rattle.std.proofs.Common.{Some, refl, sym, ap, ◌∙◌, inl, inr}
 use Rattle.std.specs.Arc.{arc_value}
 use Rattle.fixed_pool_c.specs.declared.open_handle.OpenHandle.{OpenHandle}

@@ -1,3 +1,5 @@
+-- That a pull by a handle without a place takes one of its pool, or finds the pool full and keeps
+-- the note of that. A handle that holds a place keeps it.
 use Rattle.std.proofs.Common.{Some, refl, sym, ap, ◌∙◌, inl, inr}
 use Rattle.fixed_pool_c.specs.declared.open_handle.OpenHandle.{OpenHandle}
 use Rattle.fixed_pool_c.proofs.exports.pull_at.Goals as goal

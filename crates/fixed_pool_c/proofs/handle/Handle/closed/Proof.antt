@@ -1,3 +1,4 @@
+-- That a closed handle is null, has no pool, and keeps the note of its last operation.
 use Rattle.std.proofs.Common.{◌≡◌, List, [], ◌∷◌, ◌++◌, refl, sym, subst}
 use mir.Val.{Val}
 use base.Logic.{SProp, ent, emp, id⊢}

@@ -1,3 +1,5 @@
+-- That a pull fills an empty place with a number of the handle's pool and its tag, or leaves it the
+-- note of a full pool. A place that isn't empty is refused.
 use Rattle.std.proofs.Common.{refl, sym, ◌∙◌, subst, inl, inr}
 use Rattle.fixed_pool_c.specs.Places.{PullsPlace, FindsNoPlace}
 use Rattle.fixed_pool_c.proofs.Numbers.{no_permit}

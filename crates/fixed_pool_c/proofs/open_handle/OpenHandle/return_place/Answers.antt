@@ -1,3 +1,5 @@
+-- That a place with the tag of the handle's pool, and with one of its numbers, has its permit, and
+-- is returned and left empty. Any other place is refused, and stays as it was.
 use Rattle.std.proofs.Common.{◌≡◌, ◌≤◌, refl, sym, ap, ◌∙◌, subst, inl, inr}
 use Rattle.std.specs.Prelude.{IfSome}
 use Rattle.fixed_pools.specs.FixedPool.{fixed_view}

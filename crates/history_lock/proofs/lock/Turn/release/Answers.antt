@@ -1,3 +1,5 @@
+-- That the store which frees the lock keeps the lock's rule, and that the section's operation is
+-- then the last one of the history.
 use Rattle.std.proofs.Common.{◌∷◌, Some, sym, ◌∙◌, ap, subst}
 use Rattle.atomic_table.specs.Table.{rest}
 use Rattle.history_lock.specs.History.{Known}

@@ -1,3 +1,5 @@
+-- That each line which the bytes end is answered in order, and that what comes after the last line
+-- feed is kept. After want of memory the first lines are answered.
 use Rattle.std.proofs.Common.{◌≢◌, get_or, append_assoc, take-append-drop, ◌++◌, ◌∷◌, [], drop, take, refl, sym, ap}
 use Rattle.std.proofs.Common.{◌∙◌, arith, length-append}
 use Rattle.std.proofs.lemmas.List.{take_all}

@@ -1,3 +1,6 @@
+-- That each line of the input is answered up to its end; after a failed read, each that had ended.
+-- After want of memory the first lines are answered, and after a failed write a prefix of the
+-- replies is written.
 use Rattle.std.proofs.Common.{[], sym, ap, ◌∙◌, append-nil, rules, inl, inr}
 use Rattle.std.specs.Prelude.{Err}
 use Rattle.std.proofs.KnownBytes.{Consumes-nil, Consumes-trans, Consumes-kept}

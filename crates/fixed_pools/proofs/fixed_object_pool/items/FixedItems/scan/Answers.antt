@@ -1,3 +1,5 @@
+-- That a user reads each word from one page up to another, but the skipped one, and takes a free
+-- item there; or has seen all their items in use, and knows how many returns they count.
 use Rattle.std.proofs.Common.{◌+◌, ◌<◌, refl, ◌∙◌, arith, sym, subst}
 use Rattle.fixed_pools.specs.FixedCount.{is_beside, PassesOver}
 use Rattle.fixed_pools.proofs.PoolWords.{one_behind, skipped_before}

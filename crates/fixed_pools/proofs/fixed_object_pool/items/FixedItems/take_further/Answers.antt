@@ -1,3 +1,6 @@
+-- That a pull which goes round the words takes a free item, or finds that the pool was full at one
+-- moment (or 2^32 returns came meanwhile). It makes at most one pass, one more for each return, and
+-- one more if it fails.
 use Rattle.std.proofs.Common.{◌+◌, ◌∙◌, arith, subst}
 use Rattle.fixed_pools.specs.FixedCount.{is_beside, Tallies}
 use Rattle.fixed_pools.specs.FixedPool.{pool_of}

@@ -1,3 +1,5 @@
+-- That a pull takes the least free number, grows the core if none is free, and then finds one. It
+-- probes few pages.
 use Rattle.std.proofs.Common.{refl, ◌∙◌}
 use Rattle.object_pool_cores.proofs.LeastChoiceSteps.{free-first, PullsLeast-grown}
 use Rattle.object_pool_cores.proofs.Cores.FewProbes.{ProbesFew-taken, ProbesFew-none, ProbesFew-grown}

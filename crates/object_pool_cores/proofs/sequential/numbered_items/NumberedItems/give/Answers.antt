@@ -1,3 +1,5 @@
+-- That a number that is out lies on a page of the table, and that after the return its value is
+-- free there, with each other number as before.
 use Rattle.std.proofs.Common.{◌≡◌, ◌<◌, ℕ, List, Option, Some, min, arith, length, refl, rules, slice_set}
 use Rattle.std.specs.Prelude.{slice_get}
 use Rattle.std.specs.Vec.{vec_len}

@@ -1,3 +1,4 @@
+-- That the item taken is the least free one of all pages, and that none is free if no page has one.
 use Rattle.std.proofs.Common.{◌≡◌, ◌<◌, ◌+◌, ◌*◌, ◌∙◌, arith, length, refl, rules, ap, Some, slice_set}
 use Rattle.std.specs.Prelude.{slice_get}
 use Rattle.std.specs.Vec.{vec_len}

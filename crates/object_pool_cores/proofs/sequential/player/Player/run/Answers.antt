@@ -1,3 +1,5 @@
+-- That after an error a prefix of the commands is done, with its replies in order, and some are
+-- left. With room for the replies, commands that take no memory are all done.
 use Rattle.std.proofs.Common.{◌++◌, ◌∷◌, [], sym, ◌∙◌, arith}
 use Rattle.std.proofs.lemmas.Bool.{false≢true}
 use Rattle.std.specs.Vec.Iter.{into_iter_items}
