@@ -1,3 +1,5 @@
+-- That a user who tries the bits of a word takes an item, or has seen each item of the page in use
+-- since it read the word.
 use Rattle.std.proofs.Common.{◌≡◌, ℕ, ◌<◌, ap, ◌∙◌, ◌∷◌, sym, None, arith, ◌*◌, ◌+◌}
 use Rattle.std.specs.Int.{bit_at}
 use Rattle.std.proofs.lemmas.Nat.Bits.{bit_at-zero}

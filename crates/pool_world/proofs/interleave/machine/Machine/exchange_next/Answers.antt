@@ -1,3 +1,5 @@
+-- That the agent's page is linked if the page before it is the last one, and else dropped, exactly
+-- as the transition relation says. The table has room for it.
 use Rattle.std.proofs.Common.{◌≡◌, Some, None, slice_get, arith, rules, nat_lt, ◌==◌, ◌+◌, length, true, false, refl}
 use Rattle.std.specs.Vec.{vec_len}
 use Rattle.std.proofs.lemmas.Bool.{eqb-true}

@@ -1,3 +1,5 @@
+-- That an agent keeps the values made for a page, or ends if they can't be made, exactly as the
+-- transition relation says. The table then has room for the page.
 use Rattle.std.proofs.Common.{◌≡◌, ◌≢◌, ℕ, ◌+◌, ◌<◌, Some, Result, Ok, Err, slice_get, arith, rules, inl, inr, nat_lt}
 use Rattle.std.proofs.Common.{length, true, false, refl}
 use Rattle.std.specs.Result.{OnOk, is_ok}

@@ -1,3 +1,5 @@
+-- That a read of a link leads to the next page, to the making of one, or to a refusal at the limit,
+-- exactly as the transition relation says.
 use Rattle.std.proofs.Common.{◌≡◌, Some, slice_get, arith, nat_lt, ◌==◌, ◌+◌, length, true, false, refl, nat_eq}
 use Rattle.std.proofs.lemmas.Bool.Decides.{nat_tests}
 use Rattle.std.proofs.lemmas.Grind.{common_steps}

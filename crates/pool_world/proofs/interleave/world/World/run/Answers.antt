@@ -1,3 +1,5 @@
+-- That a run of events is the world's steps one after another, with their answers in order; if
+-- memory runs out, up to there.
 use Rattle.std.proofs.Common.{◌≡◌, ◌∷◌, [], ◌++◌, refl, ◌∙◌, reverse, rules, length, arith}
 use Rattle.std.proofs.lemmas.List.{reverse-reverse}
 use Rattle.pool_world.proofs.World.RunsEvents.{replayed-none, replayed-next, runs_events-from, on-err}
