@@ -11,8 +11,8 @@ use Rattle.std.proofs.lemmas.Bool.{eq-eqb, ne_eqb, cases_eq}
 use Rattle.std.proofs.lemmas.List.{get_or_append_left, get_or-append-add, length-map, map-append}
 use Rattle.pool_parts.specs.declared.page.history.Operation.{Operation}
 use Rattle.pool_parts.specs.declared.page.history.Operation.TheVariants.{Pull, Return}
-use Rattle.pool_parts.specs.Ledger.{History, user_of, id_of, operations_of, held_id, left_by, value_at, MayFollow, IsLegal}
-use Rattle.pool_parts.proofs.Ledger.{operations_of_own, operations_of_other, value_at-here, value_at-elsewhere}
+use Rattle.pool_parts.specs.Ledger.{History, user_of, id_of, operations_of, held_id, left_by, value_at, MayFollow, IsLegal, value_at-here, value_at-elsewhere}
+use Rattle.pool_parts.proofs.Ledger.{operations_of_own, operations_of_other}
 use Rattle.pool_world.specs.Pool.{number}
 use Rattle.pool_world.specs.Run.{ledger_of, made, opened, pages_of, AreLegalActs}
 use Rattle.pool_world.proofs.LegalLedgers.{may-inside}

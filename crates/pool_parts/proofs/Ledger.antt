@@ -7,7 +7,7 @@ use Rattle.atomic_table.proofs.Lists.{at_set}
 use Rattle.pool_parts.specs.declared.page.user_view.UserView.{UserView}
 use Rattle.pool_parts.specs.PageRule.{IsSound, Knows, GoesOn, IsOutNow}
 use Rattle.pool_parts.specs.declared.page.history.Operation.{Operation}
-use Rattle.pool_parts.specs.Ledger.{History, user_of, id_of, operations_of, left_by, value_at, IsLegal, IsPrefixOf, WasOutBetween}
+use Rattle.pool_parts.specs.Ledger.{History, user_of, operations_of, IsLegal, IsPrefixOf, WasOutBetween}
 
 -- where something stands in a list, it stands below its length
 pub at_below : {A : Type 0} (list : List A) (place : ℕ) (there : A) → get_elem? list place ≡ some there
@@ -35,14 +35,6 @@ module _ {T : Type 0} where
   pub operations_of_other : (user : ℕ) (operation : Operation T) (operations : History T) → user_of operation ≢ user
       → operations_of user (operation ∷ operations) ≡ operations_of user operations
   operations_of_other user operation operations differ = rw (ne_eqb (user_of operation) user differ) refl
-
-  pub value_at-here : (opening : List (Option T)) (operation : Operation T) (before : History T) (id : ℕ)
-      → id_of operation ≡ id → value_at opening (operation ∷ before) id ≡ left_by operation
-  value_at-here opening operation before id same = rw (eq-eqb (id_of operation) id same) refl
-
-  pub value_at-elsewhere : (opening : List (Option T)) (operation : Operation T) (before : History T) (id : ℕ)
-      → id_of operation ≢ id → value_at opening (operation ∷ before) id ≡ value_at opening before id
-  value_at-elsewhere opening operation before id differ = rw (ne_eqb (id_of operation) id differ) refl
 
   abbrev pub behind : History T → History T
   behind [] = []

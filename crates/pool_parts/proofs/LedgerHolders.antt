@@ -5,11 +5,10 @@ use native.Mathlib.Decide.{ℕ_discrete}
 use mathlib.Core.Logic.{dite}
 use Rattle.pool_parts.specs.declared.page.history.Operation.{Operation}
 use Rattle.pool_parts.specs.declared.page.history.Operation.TheVariants.{Pull, Return}
-use Rattle.pool_parts.specs.Ledger.{History, user_of, id_of, operations_of, held_id, left_by, value_at, MayFollow, IsLegal, NoOperationOn}
+use Rattle.pool_parts.specs.Ledger.{History, user_of, id_of, operations_of, held_id, left_by, value_at, MayFollow, IsLegal, NoOperationOn, value_at-here, value_at-elsewhere}
 use Rattle.pool_parts.specs.declared.page.user_view.UserView.{UserView}
 use Rattle.pool_parts.specs.PageRule.{GoesOn}
-use Rattle.pool_parts.proofs.Ledger.{behind, operations_of_own, operations_of_other, value_at-here}
-use Rattle.pool_parts.proofs.Ledger.{value_at-elsewhere}
+use Rattle.pool_parts.proofs.Ledger.{behind, operations_of_own, operations_of_other}
 
 module _ {T : Type 0} where
   no_value : (value : T) → {A : Type 0} → Some value ≡ None → A

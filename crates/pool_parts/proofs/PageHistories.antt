@@ -11,11 +11,11 @@ use Rattle.std.specs.Int.{bit_at}
 use Rattle.atomic_table.proofs.Lists.{set_else}
 use Rattle.pool_parts.specs.declared.page.user_view.UserView.{UserView}
 use Rattle.pool_parts.specs.declared.page.history.Operation.{Operation}
-use Rattle.pool_parts.specs.Ledger.{History, user_of, id_of, operations_of, held_id, left_by, value_at, MayFollow, IsLegal, IsPrefixOf, EachReturned, returns_among}
+use Rattle.pool_parts.specs.Ledger.{History, user_of, id_of, operations_of, held_id, left_by, value_at, MayFollow, IsLegal, IsPrefixOf, EachReturned, returns_among, value_at-here, value_at-elsewhere}
 use Rattle.pool_parts.specs.Item.{new_user}
 use Rattle.pool_parts.specs.PageRule.{item_bit, HasHistory, Knows, GoesOn, IsSound}
-use Rattle.pool_parts.proofs.Ledger.{operations_of_own, operations_of_other, value_at-here}
-use Rattle.pool_parts.proofs.Ledger.{value_at-elsewhere, informed_later, informed_set, at_below}
+use Rattle.pool_parts.proofs.Ledger.{operations_of_own, operations_of_other}
+use Rattle.pool_parts.proofs.Ledger.{informed_later, informed_set, at_below}
 use Rattle.pool_parts.proofs.Ledger.{prefix_same, prefix_further}
 use Rattle.pool_parts.proofs.WordBits.{item_bit_of, Turns}
 use Rattle.pool_parts.proofs.PageItems.{state, at_snoc_last}

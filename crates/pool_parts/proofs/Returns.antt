@@ -4,8 +4,7 @@ use Rattle.std.proofs.Common.{None, refl, sym, ap, ◌∙◌, arith, le_refl, in
 use native.Mathlib.Decide.{ℕ_discrete}
 use mathlib.Core.Logic.{dite}
 use Rattle.pool_parts.specs.declared.page.history.Operation.TheVariants.{Pull, Return}
-use Rattle.pool_parts.specs.Ledger.{History, value_at, returns_among}
-use Rattle.pool_parts.proofs.Ledger.{value_at-here, value_at-elsewhere}
+use Rattle.pool_parts.specs.Ledger.{History, value_at, returns_among, value_at-here, value_at-elsewhere}
 
 by_test : (test : Bool) (count : ℕ) → ((test ≡ true) × ((if test then count + 1 else count) ≡ count + 1))
     ⊎ ((test ≡ false) × ((if test then count + 1 else count) ≡ count))

@@ -47,12 +47,13 @@ module _ {T : Type 0} where
   left_by (Pull user id value) = None
   left_by (Return user id value) = Some value
 
-  -- what lies at a number, in a pool that opened with these values: what its last operation left, and the opening's
-  -- where no operation was on it
+  -- what lies at a number, in a pool that opened with these values: nothing after a pull of it, what came back after a
+  -- return, and the opening's where no operation was on it
   abbrev pub value_at : List (Option T) → History T → ℕ → Option T
   value_at opening [] id = get_or opening id None
-  value_at opening (operation ∷ before) id =
-      if id_of operation == id then left_by operation else value_at opening before id
+  value_at opening (Pull user place value ∷ before) id = if place == id then None else value_at opening before id
+  value_at opening (Return user place value ∷ before) id =
+      if place == id then Some value else value_at opening before id
 
   -- an operation may come after these: who holds nothing pulls exactly the value that lies there; who pulled a number
   -- and hasn't returned it returns it, where nothing lies
@@ -134,13 +135,15 @@ module _ {T : Type 0} where
     | inr first ↦ inr ((differ, first.0), first.1)
   ]
 
-  value_at-here : (opening : List (Option T)) (operation : Operation T) (before : History T) (id : ℕ)
+  pub value_at-here : (opening : List (Option T)) (operation : Operation T) (before : History T) (id : ℕ)
       → id_of operation ≡ id → value_at opening (operation ∷ before) id ≡ left_by operation
-  value_at-here opening operation before id same = rw (eq-eqb (id_of operation) id same) refl
+  value_at-here opening (Pull user place value) before id same = rw (eq-eqb place id same) refl
+  value_at-here opening (Return user place value) before id same = rw (eq-eqb place id same) refl
 
-  value_at-elsewhere : (opening : List (Option T)) (operation : Operation T) (before : History T) (id : ℕ)
+  pub value_at-elsewhere : (opening : List (Option T)) (operation : Operation T) (before : History T) (id : ℕ)
       → id_of operation ≢ id → value_at opening (operation ∷ before) id ≡ value_at opening before id
-  value_at-elsewhere opening operation before id differ = rw (ne_eqb (id_of operation) id differ) refl
+  value_at-elsewhere opening (Pull user place value) before id differ = rw (ne_eqb place id differ) refl
+  value_at-elsewhere opening (Return user place value) before id differ = rw (ne_eqb place id differ) refl
 
   -- what lies at a number is what the last return of this very number left, or the opening's
   pub came_from : (opening : List (Option T)) (operations : History T) (id : ℕ) (value : T)

@@ -6,9 +6,8 @@ use Rattle.std.proofs.lemmas.Bool.{cases_eq, cases_lt}
 use Rattle.std.proofs.lemmas.List.{get_or_append_left, get_or_past}
 use Rattle.pool_parts.specs.declared.page.history.Operation.{Operation}
 use Rattle.pool_parts.specs.declared.page.history.Operation.TheVariants.{Pull, Return}
-use Rattle.pool_parts.specs.Ledger.{History, user_of, id_of, operations_of, held_id, left_by, value_at, MayFollow, IsLegal, NoOperationOn}
-use Rattle.pool_parts.proofs.Ledger.{operations_of_own, operations_of_other, value_at-here}
-use Rattle.pool_parts.proofs.Ledger.{value_at-elsewhere}
+use Rattle.pool_parts.specs.Ledger.{History, user_of, id_of, operations_of, held_id, left_by, value_at, MayFollow, IsLegal, NoOperationOn, value_at-here, value_at-elsewhere}
+use Rattle.pool_parts.proofs.Ledger.{operations_of_own, operations_of_other}
 
 module _ {T : Type 0} where
   -- where no operation was on a number, what the pool opened with lies there, and nobody holds it
@@ -73,9 +72,10 @@ module _ {T : Type 0} where
   pub value_at-more : (opening more : List (Option T)) (history : History T) (id : ℕ) → id < length opening
       → value_at (opening ++ more) history id ≡ value_at opening history id
   value_at-more opening more [] id below = get_or_append_left opening more None id below
-  value_at-more opening more (operation ∷ before) id below =
-      ap (λ lies. if id_of operation == id then left_by operation else lies)
-      (value_at-more opening more before id below)
+  value_at-more opening more (Pull user place value ∷ before) id below =
+      ap (λ lies. if place == id then None else lies) (value_at-more opening more before id below)
+  value_at-more opening more (Return user place value ∷ before) id below =
+      ap (λ lies. if place == id then Some value else lies) (value_at-more opening more before id below)
 
   pub legal-more : (opening more : List (Option T)) (history : History T) → IsLegal opening history
       → IsLegal (opening ++ more) history

@@ -8,8 +8,8 @@ use Rattle.std.proofs.lemmas.List.{length-map, map-append}
 use Rattle.std.proofs.lemmas.Option.{slice_get_past}
 use Rattle.pool_parts.specs.declared.page.history.Operation.{Operation}
 use Rattle.pool_parts.specs.declared.page.history.Operation.TheVariants.{Pull, Return}
-use Rattle.pool_parts.specs.Ledger.{user_of, id_of, operations_of, held_id, left_by, value_at, IsLegal, NoOperationOn}
-use Rattle.pool_parts.proofs.Ledger.{operations_of_own, value_at-here, value_at-elsewhere}
+use Rattle.pool_parts.specs.Ledger.{user_of, id_of, operations_of, held_id, left_by, value_at, IsLegal, NoOperationOn, value_at-here, value_at-elsewhere}
+use Rattle.pool_parts.proofs.Ledger.{operations_of_own}
 use Rattle.pool_parts.proofs.LedgerHolders.{held}
 use Rattle.pool_world.specs.Pool.{Place, Pool, Absent, Free, Out, IsPool, AllowsPages, place_of, free_with}
 use Rattle.pool_world.specs.Run.{Act, Opens, Writes, Operates, Grows, agent_of, acts_of, ledger_of}
