@@ -43,6 +43,11 @@ module _ {T : Type 0} where
     pub last : history ≡ Missed ∷ before
     pub none : kept_by before ≡ []
 
+  -- a list answered this to a take: the value that was kept last, or none if nothing was kept
+  abbrev pub IsTake : {R : Type 0} → Option (T × R) → Option (Known (Operation T)) → Type 0
+  IsTake taken note =
+      IfSome note (λ known. MatchOption taken (FoundNone known.history) (λ kept. TookLast known.history kept.0))
+
   -- the last operation kept this value
   abbrev pub KeptLast : List (Operation T) → T → Type 0
   KeptLast history value = (before : List (Operation T)) × (history ≡ Kept value ∷ before)

@@ -1,6 +1,6 @@
 //! The list in which a stack pool keeps its values, shared by threads.
-ghost use Rattle.std.specs.Prelude.{◌≡◌, None, IfSome, MatchOption, length, min};
-ghost use Rattle.stack_pools.specs.StackHistory.{IsNoteOf, GoesOn, TookLast, FoundNone, KeptLast, WasCleared, kept_by};
+ghost use Rattle.std.specs.Prelude.{◌≡◌, None, IfSome, length, min};
+ghost use Rattle.stack_pools.specs.StackHistory.{IsNoteOf, GoesOn, IsTake, KeptLast, WasCleared, kept_by};
 
 use crate::stack_note::StackNote;
 use kept_values::stack::{Room, Stack};
@@ -29,9 +29,7 @@ pub trait FreeList<T, K: Clean<T>>: Drop {
     fn take<W: Wait>(&self, rt: &W) -> (Option<(T, Room<T>)>, StackNote<T>)
         ensures clean { IfSome result.0 (λ taken. K.meets taken.0) }
         ensures of { IsNoteOf (lock self.now) result.1 }
-        ensures pulled { IfSome result.1 (λ known.
-            MatchOption result.0 (FoundNone known.history)
-            (λ taken. TookLast known.history taken.0)) };
+        ensures pulled { IsTake result.0 result.1 };
 
     /// Takes a kept value with its room, or returns `None` if nothing is kept, after all that a
     /// note knows.
@@ -44,9 +42,7 @@ pub trait FreeList<T, K: Clean<T>>: Drop {
         ensures clean { IfSome result.0 (λ taken. K.meets taken.0) }
         ensures of { IsNoteOf (lock self.now) result.1 }
         ensures after { GoesOn note result.1 }
-        ensures pulled { IfSome result.1 (λ known.
-            MatchOption result.0 (FoundNone known.history)
-            (λ taken. TookLast known.history taken.0)) };
+        ensures pulled { IsTake result.0 result.1 };
 
     /// Keeps a value in an empty room, after all that a note knows. The two lists of this crate
     /// need no memory for it.
@@ -95,9 +91,7 @@ impl<T: Drop, K: Clean<T>> FreeList<T, K> for Mutex<Stack<T, K>> {
         ensures clean { IfSome result.0 (λ taken. K.meets taken.0) }
         ensures of { IsNoteOf None result.1 }
         ensures after { GoesOn note result.1 }
-        ensures pulled { IfSome result.1 (λ known.
-            MatchOption result.0 (FoundNone known.history)
-            (λ taken. TookLast known.history taken.0)) }
+        ensures pulled { IsTake result.0 result.1 }
     {
         (self.lock(rt).take(), note)
     }

@@ -1,8 +1,8 @@
 //! A stack of kept values under a spin lock, with one legal history.
-ghost use Rattle.std.specs.Prelude.{◌≡◌, Some, IfSome, MatchOption, ◌⊎◌};
+ghost use Rattle.std.specs.Prelude.{◌≡◌, Some, IfSome, ◌⊎◌};
 ghost use Rattle.history_lock.specs.History.{IsPrefixOf};
 ghost use Rattle.stack_pools.specs.Sections.{Leaves};
-ghost use Rattle.stack_pools.specs.StackHistory.{IsNoteOf, GoesOn, TookLast, FoundNone, KeptLast};
+ghost use Rattle.stack_pools.specs.StackHistory.{IsNoteOf, GoesOn, IsTake, KeptLast};
 
 use crate::free_list::FreeList;
 use crate::operation::Operation;
@@ -98,9 +98,7 @@ impl<T: Drop, K: Clean<T>> FreeList<T, K> for KeptStack<T, K> {
         ensures clean { IfSome result.0 (λ taken. K.meets taken.0) }
         ensures of { IsNoteOf (Some self.now) result.1 }
         ensures after { GoesOn note result.1 }
-        ensures pulled { IfSome result.1 (λ known.
-            MatchOption result.0 (FoundNone known.history)
-            (λ taken. TookLast known.history taken.0)) }
+        ensures pulled { IsTake result.0 result.1 }
     {
         let (stack, turn) = self.lock.lock_after(rt, note.into_seen());
         taken(stack, turn)
@@ -142,9 +140,7 @@ fn taken<T: Drop, K: Clean<T>>(
     ensures clean { IfSome result.0 (λ taken. K.meets taken.0) }
     ensures of { IsNoteOf (Some turn.entry.table) result.1 }
     ensures after { IfSome result.1 (λ known. IsPrefixOf turn.entry.history known.history) }
-    ensures pulled { IfSome result.1 (λ known.
-        MatchOption result.0 (FoundNone known.history)
-        (λ taken. TookLast known.history taken.0)) }
+    ensures pulled { IsTake result.0 result.1 }
 {
     let taken = stack.take();
     (taken, StackNote::of(turn.release::<Takes>(stack)))

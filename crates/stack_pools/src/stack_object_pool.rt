@@ -2,9 +2,9 @@
 //!
 //! A pull takes the value that was returned last, or makes one if none is kept. Pulls and returns
 //! wait for the lock.
-ghost use Rattle.std.specs.Prelude.{◌≡◌, None, Some, IfOk, IfErr, IfSome, MatchOption, ⊤};
+ghost use Rattle.std.specs.Prelude.{◌≡◌, None, Some, IfOk, IfErr, IfSome, ⊤};
 ghost use Rattle.std.specs.Arc.{arc_value};
-ghost use Rattle.stack_pools.specs.StackHistory.{IsNoteOf, GoesOn, TookLast, FoundNone, IsPull, IsGivenBack};
+ghost use Rattle.stack_pools.specs.StackHistory.{IsNoteOf, GoesOn, IsTake, IsGivenBack};
 
 use crate::free_list::FreeList;
 use crate::stack_note::StackNote;
@@ -67,7 +67,7 @@ impl<
     F: FreeList<T, MadeOrReset<I, R, K>>,
 > StackObjectPool<T, I, R, K, F> {
     ghost use Rattle.pool_parts.specs.Answers.{IsMadeOrReset, Refuses};
-    ghost use Rattle.stack_pools.specs.StackPool.{stack_init, stack_reset, stack_list};
+    ghost use Rattle.stack_pools.specs.StackPool.{stack_init, stack_reset, stack_list, Pulls};
 
     /// Creates a pool over this list.
     pub(crate) fn over(alloc: Global, init: I, reset: R, kept: F) -> StackObjectPool<T, I, R, K, F>
@@ -94,10 +94,8 @@ impl<
     /// - `Init` if `init` returned `None`.
     pub fn pull<W: Wait + Copy>(&self, rt: &W) -> Result<StackReusable<T, &Self, W>, PullError>
         ensures pool { IfOk result (λ item. item.pool.now ≡ self.now) }
-        ensures meets { IfOk result (λ item. K.meets item.value) }
-        ensures made_or_reset { IfOk result (λ item. IsMadeOrReset I.answers R.leaves item.value) }
         ensures pulled { IfOk result (λ item.
-            IsPull (λ made. I.answers (stack_init self.now) (Some made)) item.value item.known) }
+            Pulls K.meets I.answers R.leaves (stack_init self.now) item.value item.known) }
         ensures refused { IfErr result (Refuses ⊤ (I.answers (stack_init self.now) None) ⊥) }
     {
         let (kept, note) = self.kept.take(rt);
@@ -125,10 +123,8 @@ impl<
     ) -> Result<StackReusable<T, &Self, W>, PullError>
         requires { IsNoteOf (F.lock (stack_list self.now)) note }
         ensures pool { IfOk result (λ item. item.pool.now ≡ self.now) }
-        ensures meets { IfOk result (λ item. K.meets item.value) }
-        ensures made_or_reset { IfOk result (λ item. IsMadeOrReset I.answers R.leaves item.value) }
         ensures pulled { IfOk result (λ item.
-            IsPull (λ made. I.answers (stack_init self.now) (Some made)) item.value item.known) }
+            Pulls K.meets I.answers R.leaves (stack_init self.now) item.value item.known) }
         ensures after { IfOk result (λ item. GoesOn note item.known) }
         ensures refused { IfErr result (Refuses ⊤ (I.answers (stack_init self.now) None) ⊥) }
     {
@@ -149,11 +145,9 @@ impl<
         rt: &W,
     ) -> Result<StackReusable<T, Arc<Self>, W>, PullError>
         ensures pool { IfOk result (λ item. arc_value item.pool ≡ arc_value self.now) }
-        ensures meets { IfOk result (λ item. K.meets item.value) }
-        ensures made_or_reset { IfOk result (λ item. IsMadeOrReset I.answers R.leaves item.value) }
         ensures pulled { IfOk result (λ item.
-            IsPull (λ made. I.answers (stack_init (arc_value self.now)) (Some made))
-            item.value item.known) }
+            Pulls K.meets I.answers R.leaves (stack_init (arc_value self.now)) item.value
+            item.known) }
         ensures refused { IfErr result
             (Refuses ⊤ (I.answers (stack_init (arc_value self.now)) None) ⊥) }
     {
@@ -173,15 +167,10 @@ impl<
         requires of { IsNoteOf (F.lock (stack_list self.now)) note }
         requires meets { IfSome kept (λ taken. K.meets taken.0) }
         requires made_or_reset { IfSome kept (λ taken. IsMadeOrReset I.answers R.leaves taken.0) }
-        requires pulled { IfSome note (λ known.
-            MatchOption kept (FoundNone known.history)
-            (λ taken. TookLast known.history taken.0)) }
+        requires taken { IsTake kept note }
         ensures note { IfOk result (λ pulled. pulled.note ≡ note) }
-        ensures meets { IfOk result (λ pulled. K.meets pulled.value) }
-        ensures made_or_reset { IfOk result (λ pulled.
-            IsMadeOrReset I.answers R.leaves pulled.value) }
         ensures pulled { IfOk result (λ pulled.
-            IsPull (λ made. I.answers (stack_init self.now) (Some made)) pulled.value note) }
+            Pulls K.meets I.answers R.leaves (stack_init self.now) pulled.value note) }
         ensures refused { IfErr result (Refuses ⊤ (I.answers (stack_init self.now) None) ⊥) }
     {
         match kept {

@@ -65,7 +65,7 @@ impl<T: Drop, I: Init<T, K>, R: Reset<T, K>, K: Clean<T>> LinearCore<T, I, R, K>
         ensures refused { result ≡ Err PullError.Init → I.answers init None }
         ensures unlimited { result ≢ Err PullError.Limit }
     {
-        LinearCore::with_first_page(NumberedItems::new(alloc, None), init, reset)
+        LinearCore::with_first_page(alloc, None, init, reset)
     }
 
     /// Creates a pool of one page, which never has more than `pages` pages.
@@ -95,19 +95,17 @@ impl<T: Drop, I: Init<T, K>, R: Reset<T, K>, K: Clean<T>> LinearCore<T, I, R, K>
         ensures refused { result ≡ Err PullError.Init → I.answers init None }
         ensures within { result ≢ Err PullError.Limit }
     {
-        LinearCore::with_first_page(NumberedItems::new(alloc, Some(pages)), init, reset)
+        LinearCore::with_first_page(alloc, Some(pages), init, reset)
     }
 
     fn with_first_page(
-        mut items: NumberedItems<T, K>,
+        alloc: Global,
+        limit: Option<usize>,
         init: I,
         reset: R,
     ) -> Result<LinearCore<T, I, R, K>, PullError>
-        requires empty { items.places ≡ [] }
-        requires allowed { items.limit ≢ Some 0 }
-        requires start { items.start ≡ 0 }
-        requires looked { items.looked ≡ 0 }
-        ensures opening { IfOk result (λ core. IsOpening (I.answers init) items.limit core) }
+        requires allowed { limit ≢ Some 0 }
+        ensures opening { IfOk result (λ core. IsOpening (I.answers init) limit core) }
         ensures init { IfOk result (λ core. linear_init core ≡ init) }
         ensures reset { IfOk result (λ core. linear_reset core ≡ reset) }
         ensures start { IfOk result (λ core. start_page_of core ≡ 0) }
@@ -115,6 +113,7 @@ impl<T: Drop, I: Init<T, K>, R: Reset<T, K>, K: Clean<T>> LinearCore<T, I, R, K>
         ensures refused { result ≡ Err PullError.Init → I.answers init None }
         ensures within { result ≢ Err PullError.Limit }
     {
+        let mut items = NumberedItems::new(alloc, limit);
         items.grow(&init)?;
         Ok(LinearCore { init, reset, items })
     }
