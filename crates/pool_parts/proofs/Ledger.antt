@@ -7,6 +7,7 @@ use Rattle.atomic_table.proofs.Lists.{at_set}
 use Rattle.pool_parts.specs.declared.page.user_view.UserView.{UserView}
 use Rattle.pool_parts.specs.PageRule.{IsSound, Knows, GoesOn, IsOutNow}
 use Rattle.pool_parts.specs.declared.page.history.Operation.{Operation}
+use Rattle.pool_parts.specs.declared.page.history.Operation.TheVariants.{Pull, Return}
 use Rattle.pool_parts.specs.Ledger.{History, user_of, operations_of, IsLegal, IsPrefixOf, WasOutBetween}
 
 -- where something stands in a list, it stands below its length
@@ -30,11 +31,13 @@ module _ {T : Type 0} where
 
   pub operations_of_own : (user : ℕ) (operation : Operation T) (operations : History T) → user_of operation ≡ user
       → operations_of user (operation ∷ operations) ≡ operation ∷ operations_of user operations
-  operations_of_own user operation operations same = rw (eq-eqb (user_of operation) user same) refl
+  operations_of_own user (Pull who id value) operations same = rw (eq-eqb who user same) refl
+  operations_of_own user (Return who id value) operations same = rw (eq-eqb who user same) refl
 
   pub operations_of_other : (user : ℕ) (operation : Operation T) (operations : History T) → user_of operation ≢ user
       → operations_of user (operation ∷ operations) ≡ operations_of user operations
-  operations_of_other user operation operations differ = rw (ne_eqb (user_of operation) user differ) refl
+  operations_of_other user (Pull who id value) operations differ = rw (ne_eqb who user differ) refl
+  operations_of_other user (Return who id value) operations differ = rw (ne_eqb who user differ) refl
 
   abbrev pub behind : History T → History T
   behind [] = []

@@ -33,8 +33,10 @@ module _ {T : Type 0} where
   -- the operations of one user
   abbrev pub operations_of : ℕ → History T → History T
   operations_of user [] = []
-  operations_of user (operation ∷ before) =
-      if user_of operation == user then operation ∷ operations_of user before else operations_of user before
+  operations_of user (Pull who id value ∷ before) =
+      if who == user then Pull who id value ∷ operations_of user before else operations_of user before
+  operations_of user (Return who id value ∷ before) =
+      if who == user then Return who id value ∷ operations_of user before else operations_of user before
 
   -- the number that a user holds after its own operations: from its pull to its return
   abbrev pub held_id : History T → Option ℕ

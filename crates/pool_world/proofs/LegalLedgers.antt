@@ -26,8 +26,11 @@ module _ {T : Type 0} where
   untouched-held : (history : History T) (user id : ℕ) → NoOperationOn id history
       → held_id (operations_of user history) ≢ Some id
   untouched-held [] user id none holds = cc
-  untouched-held (operation ∷ before) user id none holds =
-      held-apart operation (operations_of user before) id (user_of operation == user) none.0
+  untouched-held (Pull who place value ∷ before) user id none holds =
+      held-apart (Pull who place value) (operations_of user before) id (who == user) none.0
+      (untouched-held before user id none.1) holds
+  untouched-held (Return who place value ∷ before) user id none holds =
+      held-apart (Return who place value) (operations_of user before) id (who == user) none.0
       (untouched-held before user id none.1) holds
 
   -- no operation is on a number past those with which the pool opened

@@ -48,8 +48,12 @@ module _ {T : Type 0} where
   -- an agent's operations are the ledger of its own acts
   ledger-own : (acts : List (Act T)) (a : ℕ) → operations_of a (ledger_of acts) ≡ ledger_of (acts_of a acts)
   ledger-own [] a = refl
-  ledger-own (Operates operation ∷ acts) a = elim (cases_Bool (user_of operation == a)) [
-    | inl own ↦ rw own (ap (λ before. operation ∷ before) (ledger-own acts a))
+  ledger-own (Operates (Pull who id value) ∷ acts) a = elim (cases_Bool (who == a)) [
+    | inl own ↦ rw own (ap (λ before. Pull who id value ∷ before) (ledger-own acts a))
+    | inr other ↦ rw other (ledger-own acts a)
+  ]
+  ledger-own (Operates (Return who id value) ∷ acts) a = elim (cases_Bool (who == a)) [
+    | inl own ↦ rw own (ap (λ before. Return who id value ∷ before) (ledger-own acts a))
     | inr other ↦ rw other (ledger-own acts a)
   ]
   ledger-own (act ∷ acts) a = elim (cases_Bool (agent_of act == a)) [
