@@ -1,7 +1,7 @@
 -- A chain and its pages, a note of a link, and where a walk along the links came to.
 use Rattle.std.proofs.Common.{inl, inr, arith}
 use Rattle.std.proofs.lemmas.Nat.{pow_pos}
-use Rattle.std.specs.Prelude.{◌≡◌, ◌⊎◌, ℕ, ◌+◌, ◌-◌, ◌<◌, ◌≤◌, List, Option, Some, IfSome, ⊤}
+use Rattle.std.specs.Prelude.{◌≡◌, ◌⊎◌, ℕ, ◌+◌, ◌-◌, ◌^◌, ◌<◌, ◌≤◌, List, Option, Some, IfSome, slice_get, ⊤}
 use Rattle.std.specs.Arc.{arc_value}
 use Rattle.std.specs.Option.{option_map}
 use Rattle.std.specs.declared.alloc.Global.{Global}
@@ -14,12 +14,13 @@ use Rattle.pool_parts.specs.Slot.{IsFullPage}
 use Rattle.pool_parts.specs.declared.page.word.TheConstants.{PAGE_ITEMS}
 use Rattle.pool_parts.specs.declared.pull_error.PullError.{PullError}
 use Rattle.pool_parts.specs.declared.pull_error.PullError.TheVariants.{Limit as LimitCause}
-use Rattle.page_chain.specs.Links.{IsLinkTo, cell_in_row}
 use Rattle.page_chain.specs.declared.linear_page.chain.Chain.{Chain}
+use Rattle.page_chain.specs.declared.linear_page.directory.Row.{Row}
 use Rattle.page_chain.specs.declared.linear_page.linked_page.LinearPage.{LinearPage}
 use Rattle.page_chain.specs.declared.linear_page.link_note.LinkNote.{LinkNote}
 use Rattle.page_chain.specs.declared.linear_page.page_number.PageNumber.{PageNumber}
 use Rattle.page_chain.specs.declared.linear_page.walk.LimitSeen.{LimitSeen}
+use Rattle.page_chain.specs.declared.linear_page.walk.WalkEnd.{WalkEnd}
 use Rattle.page_chain.specs.declared.linear_page.walk.WalkRefusal.{WalkRefusal}
 use Rattle.page_chain.specs.declared.linear_page.walk.WalkRefusal.TheVariants.{Limit, Making}
 
@@ -61,13 +62,21 @@ module _ {T K O : Type 0} {opens : Ghosts O T} where
     pub known : known_next note ≡ Some (shown_page next).page
 
 module _ {T K O : Type 0} where
-  -- the link to the page of this number leads to this page, as the notes of its row and of itself
-  -- know
+  -- the link to the page of this number leads to this page, as the notes of its row and of itself know: row `b` begins
+  -- with the link to page `2 ^ b` and has as many links
   pub record IsLinkedAt (links : List (Global × ℕ)) (known : PageNumber T K O) (page : PageView T) : Type 0 where
-    -- where in its row that link lies
+    -- the row, and where in it the link lies
+    pub row_number : ℕ
+    pub row : Global × ℕ
+    pub is_row : slice_get links row_number ≡ Some row
     pub offset : ℕ
-    pub is_link : IsLinkTo links known.number (known.row.cell, offset)
-    pub in_row : cell_in_row known.row.known offset ≡ Some known.link.cell
+    pub at_number : 2 ^ row_number + offset ≡ known.number
+    pub in_row : offset < 2 ^ row_number
+    -- the notes are of that row's cell, and of the link's cell in what the row is known to be
+    pub row_cell : known.row.cell ≡ cell_name row
+    pub known_row : Row T K O
+    pub knows_row : known.row.known ≡ Some known_row
+    pub link_cell : option_map cell_name (slice_get known_row.links.items offset) ≡ Some known.link.cell
     pub leads_here : option_map (λ page. page_view (arc_value page)) known.link.known ≡ Some page
 
   -- a walk came to the page of this number: it is the start's, or the one to which the link of that
@@ -121,6 +130,12 @@ pub record Pulls {T K O : Type 0} (meets may_open : T → Type 0) (start : Chain
   pub of_start : number.number ≡ start.number → page_of_item item ≡ start.page
   pub within : IfSome limit (λ pages. number.number - start.number < pages)
 
+-- where a walk ended: an item that it pulled within the limit, and that item's page
+pub record IsWalkEnd {T K O : Type 0} (meets may_open : T → Type 0) (start : ChainPage T) (limit : Option ℕ)
+    (reached : WalkEnd T K O) : Type 0 where
+  pub taken : Pulls meets may_open start limit reached.number reached.slot.item
+  pub of_page : page_of_item reached.slot.item ≡ page_view (arc_value reached.page.now)
+
 -- what a pull along the links gives that has passed so many of them: an item, whose page opened with 32 values of this
 -- kind, and is the start if no link was passed
 pub record PullsAlong {T : Type 0} (meets may_open : T → Type 0) (start : ChainPage T) (passed : ℕ) (item : Item T)
@@ -135,9 +150,8 @@ pub record PullsAlong {T : Type 0} (meets may_open : T → Type 0) (start : Chai
 pub no_link_to_first : {T K O : Type 0} (links : List (Global × ℕ)) (known : PageNumber T K O) (page : PageView T)
     → IsLinkedAt links known page → known.number ≡ 0 → ⊥
 no_link_to_first links known page linked first =
-    let here = linked.is_link in
-    let start = pow_pos here.row_number in
-    omega (arith, here.offset, start, first)
+    let start = pow_pos linked.row_number in
+    omega (arith, linked.at_number, start, first)
 
 -- so the page of number 0 that a walk came to from the chain's start is the first one, as
 -- `on_page` of a pull says

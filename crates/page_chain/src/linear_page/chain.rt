@@ -12,7 +12,7 @@
 //! Until then a hint may be missing, which costs a walk, or be left over, which costs a look.
 //! Neither decides anything. Only the walk links a page or ends at a limit, with the evidence of
 //! each page that it was full in this very pull.
-ghost use Rattle.std.specs.Prelude.{◌≡◌, ◌≤◌, ◌<◌, None, IfSome, IsSome, IfOk, IfErr, ⊤};
+ghost use Rattle.std.specs.Prelude.{◌≡◌, ◌≤◌, ◌<◌, None, IfSome, IfOk, IfErr, ⊤};
 ghost use Rattle.std.specs.Arc.{arc_value};
 ghost use Rattle.pool_parts.specs.Answers.{MayMake, Refuses};
 ghost use Rattle.pool_parts.specs.Ledger.{EachReturned};
@@ -59,7 +59,7 @@ impl<T: Drop, K: Clean<T>, O: Clean<T>> Drop for Chain<T, K, O> {
 }
 
 impl<T: Drop, K: Clean<T>, O: Clean<T>> Chain<T, K, O> {
-    ghost use Rattle.page_chain.specs.Walk.{shown_page, first_page, page_of_item, Pulls, IsRefusedBy, IsWalkedTo, cause_of};
+    ghost use Rattle.page_chain.specs.Walk.{shown_page, first_page, IsWalkEnd, IsRefusedBy, IsWalkedTo};
     ghost use Rattle.page_chain.specs.WalkSteps.{IsAnsweredBy, IsKnownAt};
 
     /// Creates a chain of one page, made as by [`Page::new`].
@@ -140,15 +140,11 @@ impl<T: Drop, K: Clean<T>, O: Clean<T>> Chain<T, K, O> {
         requires some_page { IfSome limit (λ pages. 1 ≤ pages) }
         requires may_make { MayMake I.pre I.post K.meets init.now }
         requires opens { MayMake I.pre I.post O.meets init.now }
-        ensures taken { IfOk result (λ reached.
-            Pulls K.meets O.meets (first_page self.now) limit reached.number reached.slot.item) }
-        ensures page { IfOk result (λ reached.
-            page_of_item reached.slot.item ≡ page_view (arc_value reached.page.now)) }
+        ensures taken { IfOk result
+            (IsWalkEnd K.meets O.meets (first_page self.now) limit) }
         ensures past_first { IfOk result (λ reached. 0 < reached.number.number) }
-        ensures evidence { IfErr result
+        ensures refused { IfErr result
             (IsRefusedBy (first_page self.now) limit (I.post init.now None)) }
-        ensures refused { IfErr result (λ refusal.
-            Refuses ⊤ (I.post init.now None) (IsSome limit) (cause_of refusal)) }
     {
         let mut known = None;
         if let Some((number, page, note)) = self.hinted_page(limit) {

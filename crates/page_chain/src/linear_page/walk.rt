@@ -2,7 +2,7 @@
 ghost use Rattle.std.specs.Prelude.{◌≡◌, ◌+◌, ◌-◌, ◌^◌, ◌≤◌, ◌<◌, ⊤, Option, None, Some, IfSome, IsSome, IsTrue, IsFalse, IfOk, IfErr};
 ghost use Rattle.std.specs.Arc.{arc_value};
 ghost use Rattle.pool_parts.specs.Answers.{MayMake, Refuses};
-ghost use Rattle.page_chain.specs.Walk.{shown_page, page_of_item, Pulls, PullsAlong, IsRefusedBy, cause_of};
+ghost use Rattle.page_chain.specs.Walk.{shown_page, page_of_item, Pulls, PullsAlong, IsWalkEnd, IsRefusedBy, cause_of};
 ghost use Rattle.pool_parts.specs.Page.{page_view};
 ghost use Rattle.pool_parts.specs.Slot.{IsFullPage};
 ghost use Rattle.page_chain.specs.WalkSteps.{IsAnsweredBy, IsFullAt, IsKnownAt};
@@ -255,16 +255,12 @@ impl<'c, T: Drop, K: Clean<T>, O: Clean<T>> LinearPage<'c, T, K, O> {
         requires some_page { IfSome limit (λ pages. 1 ≤ pages) }
         requires may_make { MayMake I.pre I.post K.meets init.now }
         requires opens { MayMake I.pre I.post O.meets init.now }
-        ensures taken { IfOk result (λ reached.
-            Pulls K.meets O.meets (shown_page self.now) limit reached.number reached.slot.item) }
-        ensures page { IfOk result (λ reached.
-            page_of_item reached.slot.item ≡ page_view (arc_value reached.page.now)) }
+        ensures taken { IfOk result
+            (IsWalkEnd K.meets O.meets (shown_page self.now) limit) }
         ensures further { IfOk result (λ reached. (shown_page self.now).number
             < reached.number.number) }
-        ensures evidence { IfErr result (IsRefusedBy (shown_page self.now) limit
+        ensures refused { IfErr result (IsRefusedBy (shown_page self.now) limit
             (I.post init.now None)) }
-        ensures refused { IfErr result (λ refusal.
-            Refuses ⊤ (I.post init.now None) (IsSome limit) (cause_of refusal)) }
     {
         let pass = seen.pass();
         let mut page: &'c OpenedPage<T, K, O> = self.page;

@@ -2,8 +2,8 @@ use Rattle.std.proofs.Common.{◌≡◌, ◌+◌, ◌-◌, ◌<◌, IfSome, arit
 use Rattle.page_chain.specs.Walk.{shown_page}
 use Rattle.page_chain.proofs.linear_page.linked_page.LinearPage.walk_on.Goals as goal
 
-pub returns-then-is_last-clause-evidence : goal.returns-then-is_last-clause-evidence
-returns-then-is_last-clause-evidence g c =
+pub returns-then-is_last-clause-refused : goal.returns-then-is_last-clause-refused
+returns-then-is_last-clause-refused g c =
     let kept = c.loop-pass.invariant in
     let start = shown_page {opens = g.O.Clean} c.args.self.now in (
       _,
