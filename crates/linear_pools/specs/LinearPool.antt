@@ -1,19 +1,19 @@
 -- What a linear pool and its reusables show, and what a pull gives.
 use mir.Syntax.{named}
-use Rattle.std.specs.Prelude.{ℕ, ◌<◌, [], Option, IfSome, Some}
+use Rattle.std.specs.Prelude.{◌≡◌, ◌⊎◌, ℕ, ◌<◌, [], Option, IfSome, Some}
 use Rattle.std.specs.Arc.{arc_value}
 use Rattle.std.specs.Borrow.{Lends, Fml, RattleType, MutBor}
 use Rattle.std.specs.Option.{option_map}
 use Rattle.pool_parts.specs.Answers.{IsMadeOrReset}
 use Rattle.pool_parts.specs.Item.{Item, IsPulled, IsFilled, new_user}
 use Rattle.pool_parts.specs.Ledger.{EachReturned}
-use Rattle.pool_parts.specs.Page.{page_view}
+use Rattle.pool_parts.specs.Page.{PageView, page_view}
 use Rattle.pool_parts.specs.declared.clean.Clean as Clean
 use Rattle.pool_parts.specs.declared.closures.Init as Init
 use Rattle.pool_parts.specs.declared.closures.Reset as Reset
 use Rattle.pool_parts.specs.declared.made_or_reset.MadeOrReset.{MadeOrReset}
 use Rattle.pool_parts.specs.declared.page.word.TheConstants.{PAGE_ITEMS}
-use Rattle.page_chain.specs.Walk.{ChainPage, ChainItem, IsWalkedTo}
+use Rattle.page_chain.specs.Walk.{ChainPage, ChainItem, IsLinkedAt}
 use Rattle.page_chain.specs.declared.linear_page.page_number.PageNumber.{PageNumber}
 use Rattle.linear_pools.specs.contracts.linear_owned_reusable.LinearOwnedReusable as Owned
 use Rattle.linear_pools.specs.contracts.linear_reusable.LinearReusable as Borrowed
@@ -45,7 +45,10 @@ module _ {T I R K : Type 0} where
       (pool : LinearObjectPool T I R K) (number : PageNumber T (MadeOrReset I R K) (AnswerOf I K)) (item : Item T)
       : Type 0 where
     pub in_page : item.id < PAGE_ITEMS
-    pub on_page : IsWalkedTo (linear_view pool).start number (record { identity = item.page; opening = item.opening })
+    -- the first page has number 0, and any other is where the link of its number leads
+    pub on_page : let page : PageView T = record { identity = item.page; opening = item.opening } in
+        ((number.number ≡ 0) × (page ≡ (linear_view pool).start.page))
+        ⊎ IsLinkedAt (linear_view pool).start.links number page
     pub within : IfSome (linear_view pool).limit (λ pages. number.number < pages)
     -- the page opened with 32 answers of init
     pub opened : IsFilled PAGE_ITEMS (λ value. (initializer : I) × answers initializer (Some value)) item.opening
