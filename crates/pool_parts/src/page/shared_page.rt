@@ -124,7 +124,7 @@ impl<T, K: Clean<T>> Page<T, K> {
         ensures brief { IsBrief 0 0 (answer_view result.answer) }
     {
         let (word, seat) = self.items.look(0);
-        self.take_lowest(pass, word, seat)
+        self.take_by(pass, word, seat)
     }
 
     /// Pulls a free item, or returns the evidence that each was seen in use, by a user that knows
@@ -162,7 +162,7 @@ impl<T, K: Clean<T>> Page<T, K> {
     {
         let PageNote { mut seat } = note;
         let word = self.items.look_again(&mut seat, 0);
-        self.take_lowest(pass, word, seat).answer
+        self.take_by(pass, word, seat).answer
     }
 
     /// Returns a note of this page, by a user that did nothing. It costs one load.
@@ -210,8 +210,8 @@ impl<T, K: Clean<T>> Page<T, K> {
         self.items.are_two(one, other);
     }
 
-    /// Clears the bits that were set in the word, lowest first, until one was still set.
-    fn take_lowest<'s, 'p>(
+    /// Pulls by a user that has read the word, or finds that each item is in use.
+    fn take_by<'s, 'p>(
         &'s self,
         pass: &'p PullPass,
         word: u32,

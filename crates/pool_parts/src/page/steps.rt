@@ -6,15 +6,13 @@ use super::holding::Holding;
 use super::items::Items;
 use super::rule::{ClearBit, Count, Look, LookAgain, SetBit};
 use super::user_view::UserSeat;
-use super::word::{
-    PAGE_ITEMS, PageId, all_but, count_of, is_bit_set, low_half, with_bit, without_bit,
-};
+use super::word::{PAGE_ITEMS, PageId, all_but, count_of, is_bit_set, low_half, with_bit};
 use crate::clean::Clean;
 
 impl<T, K: Clean<T>> Items<T, K> {
     ghost use Rattle.pool_parts.specs.Page.{view_of};
     ghost use Rattle.pool_parts.specs.PageItems.{items_view};
-    ghost use Rattle.pool_parts.specs.PageRule.{Loads, Counts, Misses, TakesOne, GoesOn};
+    ghost use Rattle.pool_parts.specs.PageRule.{Loads, Counts, MayTake, Misses, TakesOne, GoesOn};
     ghost use Rattle.pool_parts.specs.Item.{new_user};
     ghost use Rattle.pool_parts.specs.Ledger.{EachReturned};
 
@@ -70,12 +68,13 @@ impl<T, K: Clean<T>> Items<T, K> {
             × (seat.new.me.0.tries ≡ seat.old.me.0.tries + 1)) }
     {
         let words = &self.table.shared;
-        let found = words.fetch_and::<ClearBit<K>>(seat, page, all_but(bit));
+        let others = all_but(bit);
+        let found = words.fetch_and::<ClearBit<K>>(seat, page, others);
         if !is_bit_set(found, bit) {
             return None;
         }
         match words.exchange(seat, PAGE_ITEMS * page + bit as usize, None) {
-            Some(value) => Some((value, without_bit(low_half(found), bit) as usize)),
+            Some(value) => Some((value, low_half(found & others) as usize)),
             None => unreachable!(),
         }
     }
@@ -89,12 +88,9 @@ impl<T, K: Clean<T>> Items<T, K> {
         requires items { holding.seat.table_id ≡ (items_view self.now).identity }
         requires in_items { holding.number < (items_view self.now).identity.slots }
         requires meets { K.meets value }
-        requires raise { raise ≡ (items_view self.now).raise }
-        requires by_one { raise ≤ 1 }
+        requires raise { (raise ≡ (items_view self.now).raise) × (raise ≤ 1) }
         ensures items { result.0.table_id ≡ holding.seat.table_id }
-        ensures carries_none { result.0.me.1 ≡ [] }
-        ensures holds_none { result.0.me.0.held ≡ None }
-        ensures here { result.0.me.0.retired ≡ false }
+        ensures may_take { MayTake result.0.me }
         ensures returned { GoesOn (Return result.0.me.0.user holding.number value ∷ [])
             (view_of holding.seat) result.0.me.0 }
         ensures each_returned { EachReturned K.meets result.0.me.0.operations }

@@ -9,13 +9,13 @@ fetch_and-found-requires g c =
       c.requires.items,
       c.requires.in_items,
       clears _ _ _ items.table.shared.table_id.slots c.args.page _ _ c.args.bit _ c.requires.in_word
-          (omega (arith, items.covered, c.requires.in_items)) c.all_but.ensures c.requires.holds_none
+          (omega (arith, items.covered, c.requires.in_items)) c.all_but-others.ensures c.requires.holds_none
           c.requires.here,
     )
 
 pub exchange-requires : goal.exchange-requires
 exchange-requires g c =
-    let took = (c.fetch_and-found.ensures.2.0 c.args.bit c.requires.in_word c.all_but.ensures
+    let took = (c.fetch_and-found.ensures.2.0 c.args.bit c.requires.in_word c.all_but-others.ensures
     (c.is_bit_set.ensures.0 c.if-not-is_bit_set.false)) in (
       c.fetch_and-found.ensures.0 ∙ c.requires.items,
       (

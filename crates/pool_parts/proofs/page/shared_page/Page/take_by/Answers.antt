@@ -1,7 +1,7 @@
 use Rattle.std.proofs.Common.{◌∙◌, ap, arith}
 use Rattle.atomic_table.specs.Seated.{TableId}
 use Rattle.pool_parts.proofs.PageAnswers.{found_out, knows_out}
-use Rattle.pool_parts.proofs.page.shared_page.Page.take_lowest.Goals as goal
+use Rattle.pool_parts.proofs.page.shared_page.Page.take_by.Goals as goal
 
 pub returns-in-None-clause-answer : goal.returns-in-None-clause-answer
 returns-in-None-clause-answer g c =
