@@ -27,7 +27,7 @@ pub record Pulls (old new : OpenHandle) (place : ℕ) : Type 0 where
   pub number : place ≡ out.item.id
   -- the pull's user made so many loads and tries at most in the first pass, and in a further one
   -- for each return meanwhile
-  pub brief : IsWithin ((fixed_view (arc_value idle.pool)).pages * (returns_since out.known + 1))
+  pub steps : IsWithin ((fixed_view (arc_value idle.pool)).pages * (returns_since out.known + 1))
       (view_of idle.note.seat).loads (view_of idle.note.seat).tries out.known
 
 -- the handle held no place, and holds none: at one moment of the call all places were out (or 2^32

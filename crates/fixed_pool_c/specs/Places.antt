@@ -45,7 +45,7 @@ pub record PullsPlace (new : Place) (pool : PlacePool) : Type 0 where
   pub number : new.after ≡ (held_item holding tt).id + 1
   -- the pull's user made so many loads and tries at most in the first pass, and in a further one
   -- for each return meanwhile
-  pub brief : IsWithin ((fixed_view pool).pages * (returns_since (view_of holding.seat) + 1)) 0 0 (view_of holding.seat)
+  pub steps : IsWithin ((fixed_view pool).pages * (returns_since (view_of holding.seat) + 1)) 0 0 (view_of holding.seat)
 
 -- the place is empty, and its note shows that at one moment of the call all places were out (or 2^32
 -- returns and more came within it), and that the call made so many loads and tries at most

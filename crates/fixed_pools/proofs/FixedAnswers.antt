@@ -58,7 +58,7 @@ module _ {T : Type 0} where
             (pulled pool start.me.0 item.holding.seat.me.0 item.holding.seat.table_id item.holding.number item.value
             begun.sound takes.goes_on (steps.same_pool ∙ begun.of_pool) takes.in_pool);
         meets_condition = takes.meets_condition;
-        brief = record { loads = omega arith; tries = omega arith };
+        steps = record { loads = omega arith; tries = omega arith };
       }
 
   -- so it is of one that went round as returns came since its first load

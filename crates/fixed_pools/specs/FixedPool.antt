@@ -69,7 +69,7 @@ module _ {T : Type 0} where
     pub pulled : IsPulled pool before (held_item item.holding item.value)
     pub meets_condition : meets item.value
     -- it read each word of the pool once in a pass at most, and tried each bit of it once
-    pub brief : IsWithin (pool.words * passes) before.loads before.tries (view_of item.holding.seat)
+    pub steps : IsWithin (pool.words * passes) before.loads before.tries (view_of item.holding.seat)
 
   -- a pull of one pass was refused: each item of this pool was seen in use in it, by a user that had known this before
   -- and now knows this
@@ -91,7 +91,7 @@ module _ {T : Type 0} where
     pub same_operations : operations_of (view_of note.seat).user (view_of note.seat).operations
         ≡ operations_of before.user before.operations
     -- it made two passes at most, and one more for each return since its first load
-    pub brief : IsWithin (pool.words * (returns_since (view_of note.seat) + 2)) before.loads before.tries
+    pub steps : IsWithin (pool.words * (returns_since (view_of note.seat) + 2)) before.loads before.tries
         (view_of note.seat)
 
 module _ {T I R K : Type 0} where

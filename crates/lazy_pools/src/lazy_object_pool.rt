@@ -172,7 +172,7 @@ impl<T: Drop, I: Init<T, K>, R: Reset<T, K>, K: Clean<T>> LazyObjectPool<T, I, R
         ensures pool { IfOk result (λ item. item.pool.now ≡ self.now) }
         ensures pulled { IfOk result (λ item.
             Pulls K.meets I.answers R.leaves (lazy_view self.now) item.item item.value) }
-        ensures brief { IfOk result (λ item.
+        ensures steps { IfOk result (λ item.
             IsWithin ((lazy_view self.now).pages * (returns_since item.known + 1)) 0 0 item.known) }
         ensures refused { IfErr result
             (RefusesOrClosed ⊥ (I.answers (lazy_view self.now).init None) ⊤) }
@@ -206,7 +206,7 @@ impl<T: Drop, I: Init<T, K>, R: Reset<T, K>, K: Clean<T>> LazyObjectPool<T, I, R
         ensures pool { IfOk result (λ item. item.pool.now ≡ self.now) }
         ensures pulled { IfOk result (λ item.
             Pulls K.meets I.answers R.leaves (lazy_view self.now) item.item item.value) }
-        ensures brief { IfOk result (λ item. IsWithin (lazy_view self.now).pages 0 0 item.known) }
+        ensures steps { IfOk result (λ item. IsWithin (lazy_view self.now).pages 0 0 item.known) }
         ensures refused { IfErr result
             (RefusesOnePass (lazy_view self.now).identity (lazy_view self.now).opening
             (I.answers (lazy_view self.now).init None)) }
@@ -235,7 +235,7 @@ impl<T: Drop, I: Init<T, K>, R: Reset<T, K>, K: Clean<T>> LazyObjectPool<T, I, R
         ensures pulled { IfOk result (λ item.
             Pulls K.meets I.answers R.leaves (lazy_view (arc_value self.now)) item.item
             item.value) }
-        ensures brief { IfOk result (λ item.
+        ensures steps { IfOk result (λ item.
             IsWithin ((lazy_view (arc_value self.now)).pages * (returns_since item.known
             + 1)) 0 0 item.known) }
         ensures refused { IfErr result
@@ -265,7 +265,7 @@ impl<T: Drop, I: Init<T, K>, R: Reset<T, K>, K: Clean<T>> LazyObjectPool<T, I, R
     #[inline(always)]
     pub(crate) fn take(&self) -> Result<PulledItem<Option<T>>, NoPlace<T>>
         ensures pulled { IfOk result (IsPulledPlace K.meets I.answers R.leaves (lazy_view self.now)) }
-        ensures brief { IfOk result (λ pulled.
+        ensures steps { IfOk result (λ pulled.
             IsWithin ((lazy_view self.now).pages * (returns_since (view_of pulled.holding.seat)
             + 1)) 0 0 (view_of pulled.holding.seat)) }
         ensures none { IfErr result (TakesNone (lazy_view self.now) ⊤) }

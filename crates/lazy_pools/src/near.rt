@@ -50,7 +50,7 @@ impl<'p, T: Drop, I: Init<T, K>, R: Reset<T, K>, K: Clean<T>> Near<'p, T, I, R, 
         ensures pool { IfOk result (λ item. item.pool.now ≡ self.now.pool.now) }
         ensures pulled { IfOk result (λ item.
             Pulls K.meets I.answers R.leaves (lazy_view self.now.pool.now) item.item item.value) }
-        ensures brief { IfOk result (λ item.
+        ensures steps { IfOk result (λ item.
             IsWithin ((lazy_view self.now.pool.now).pages * (returns_since item.known
             + 1)) 0 0 item.known) }
         ensures refused { IfErr result

@@ -36,7 +36,7 @@ module _ {T : Type 0} where
   IsFullPage page seen = IsAllOut PAGE_ITEMS page (new_user seen.known.opening seen.known.user) seen
 
   -- a user that had made so many loads and tries has read the page's word once more, and has tried 32 bits more at most
-  pub record IsBrief (read tried : ℕ) (known : UserView T) : Type 0 where
+  pub record ReadsOnce (read tried : ℕ) (known : UserView T) : Type 0 where
     pub one_look : known.loads ≡ read + 1
     pub tries : known.tries ≤ tried + PAGE_ITEMS
 

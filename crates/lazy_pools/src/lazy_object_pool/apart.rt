@@ -27,7 +27,7 @@ impl<T: Drop, I: Init<T, K>, R: Reset<T, K>, K: Clean<T>> LazyObjectPool<T, I, R
         ensures pulled { IfOk result (λ apart.
             Pulls K.meets I.answers R.leaves (lazy_view self.now)
             (held_item apart.0 (Some apart.1)) apart.1) }
-        ensures brief { IfOk result (λ apart.
+        ensures steps { IfOk result (λ apart.
             IsWithin ((lazy_view self.now).pages * (returns_since (view_of apart.0.seat) + 1)) 0 0
             (view_of apart.0.seat)) }
         ensures refused { IfErr result

@@ -37,7 +37,7 @@ impl<T: Drop, I: Init<T, K>, R: Reset<T, K>, K: Clean<T>> LazyObjectPool<T, I, R
         ensures pulled { IfOk result (λ item.
             PullsMade K.meets (lazy_view self.now) (λ value. F.post make (Ok value)) item.item
             item.value) }
-        ensures brief { IfOk result (λ item.
+        ensures steps { IfOk result (λ item.
             IsWithin ((lazy_view self.now).pages * (returns_since item.known + 1)) 0 0 item.known) }
         ensures refused { IfErr result
             (RefusesWith (lazy_view self.now) ⊥ ⊤ (λ cause. F.post make (Err cause))) }
@@ -62,7 +62,7 @@ impl<T: Drop, I: Init<T, K>, R: Reset<T, K>, K: Clean<T>> LazyObjectPool<T, I, R
         ensures pulled { IfOk result (λ item.
             PullsMade K.meets (lazy_view (arc_value self.now))
             (λ value. F.post make (Ok value)) item.item item.value) }
-        ensures brief { IfOk result (λ item.
+        ensures steps { IfOk result (λ item.
             IsWithin ((lazy_view (arc_value self.now)).pages * (returns_since item.known
             + 1)) 0 0 item.known) }
         ensures refused { IfErr result

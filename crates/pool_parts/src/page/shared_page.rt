@@ -41,7 +41,7 @@ impl<T: Drop, K: Clean<T>> Drop for Page<T, K> {
 
 impl<T, K: Clean<T>> Page<T, K> {
     ghost use Rattle.pool_parts.specs.Answers.{MayMake, Refuses};
-    ghost use Rattle.pool_parts.specs.Slot.{IsAnswerOf, IsBrief, answer_view};
+    ghost use Rattle.pool_parts.specs.Slot.{IsAnswerOf, ReadsOnce, answer_view};
     ghost use Rattle.pool_parts.specs.Page.{held_item, HoldsSame, IsReturned, IsNoteOf, HasLearned, page_identity, page_opening, view_of};
     ghost use Rattle.pool_parts.specs.Item.{IsPageItem, IsPulled, IsFilled, new_user};
     ghost use Rattle.pool_parts.specs.PageRule.{MayTake, IsOutNow};
@@ -89,7 +89,7 @@ impl<T, K: Clean<T>> Page<T, K> {
         ensures pulled { IfOk result (λ found. IfSome found
             (λ slot. IsPulled (page_identity self.now)
             (new_user (page_opening self.now) slot.item.holder) slot.item)) }
-        ensures brief { IfOk result (λ found. IfSome found (λ slot. IsBrief 0 0 slot.known)) }
+        ensures steps { IfOk result (λ found. IfSome found (λ slot. ReadsOnce 0 0 slot.known)) }
     {
         let pass = PullPass::new();
         match self.try_alloc(&pass)? {
@@ -111,7 +111,7 @@ impl<T, K: Clean<T>> Page<T, K> {
         ensures succeeds { IsOk result }
         ensures answer { IfOk result (λ answer. IsAnswerOf K.meets (page_identity self.now)
             (new_user (page_opening self.now) (answer_view answer).user) answer) }
-        ensures brief { IfOk result (λ answer. IsBrief 0 0 (answer_view answer)) }
+        ensures steps { IfOk result (λ answer. ReadsOnce 0 0 (answer_view answer)) }
     {
         Ok(self.take(pass).answer)
     }
@@ -121,7 +121,7 @@ impl<T, K: Clean<T>> Page<T, K> {
     pub fn take<'s, 'p>(&'s self, pass: &'p PullPass) -> PageAnswer<'s, 'p, T, K>
         ensures answer { IsAnswerOf K.meets (page_identity self.now)
             (new_user (page_opening self.now) (answer_view result.answer).user) result.answer }
-        ensures brief { IsBrief 0 0 (answer_view result.answer) }
+        ensures steps { ReadsOnce 0 0 (answer_view result.answer) }
     {
         let (word, seat) = self.items.look(0);
         self.take_by(pass, word, seat)
@@ -142,8 +142,8 @@ impl<T, K: Clean<T>> Page<T, K> {
         ensures succeeds { IsOk result }
         ensures answer { IfOk result
             (IsAnswerOf K.meets (page_identity self.now) (view_of note.seat)) }
-        ensures brief { IfOk result
-            (λ answer. IsBrief (view_of note.seat).loads (view_of note.seat).tries
+        ensures steps { IfOk result
+            (λ answer. ReadsOnce (view_of note.seat).loads (view_of note.seat).tries
             (answer_view answer)) }
     {
         Ok(self.take_from(pass, note))
@@ -157,7 +157,7 @@ impl<T, K: Clean<T>> Page<T, K> {
     ) -> Allocated<'s, 'p, T, K>
         requires page { note.seat.table_id ≡ page_identity self.now }
         ensures answer { IsAnswerOf K.meets (page_identity self.now) (view_of note.seat) result }
-        ensures brief { IsBrief (view_of note.seat).loads (view_of note.seat).tries
+        ensures steps { ReadsOnce (view_of note.seat).loads (view_of note.seat).tries
             (answer_view result) }
     {
         let PageNote { mut seat } = note;

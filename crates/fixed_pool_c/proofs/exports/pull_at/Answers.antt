@@ -50,7 +50,7 @@ returns-in-Ok c =
           same_pool = pulled.pool;
           pulled = pulled.pulled.pulled;
           number = c.number.ensures.value;
-          brief = record { loads = pulled.pulled.loads; tries = pulled.pulled.tries };
+          steps = record { loads = pulled.pulled.loads; tries = pulled.pulled.tries };
         },
       ),
     )

@@ -26,7 +26,7 @@ returns-in-Ok c =
           holds = c.hold.ensures.held;
           pulled = c.in-Ok.ensures.pulled.pulled;
           number = c.hold.ensures.number;
-          brief = record { loads = c.in-Ok.ensures.pulled.loads; tries = c.in-Ok.ensures.pulled.tries };
+          steps = record { loads = c.in-Ok.ensures.pulled.loads; tries = c.in-Ok.ensures.pulled.tries };
         },
       ),
     )
