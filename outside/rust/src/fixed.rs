@@ -1,32 +1,32 @@
 //! Which places of a fixed number are held. A thread keeps one that it returned, where others may
 //! take it: so a pull is refused only if all places were out at one moment.
-use crate::lanes::Lanes;
 use crate::library::Library;
 use crate::pool::NewError;
 use crate::sys::{Handle, PAGE};
+use crate::thread_slots::ThreadSlots;
 use crate::threads::{self, Number, Owned};
 use std::cell::{Cell, RefCell};
 use std::sync::atomic::{AtomicU64, Ordering::Acquire, Ordering::Release};
 
-/// How many places a lane pulls at one page, if others return them.
+/// How many places a thread pulls at one page, if others return them.
 const TOGETHER: isize = 4;
 
 /// The places of a pool.
 pub(crate) struct Fixed {
     library: Library,
-    lanes: Lanes<Lane>,
+    thread_slots: ThreadSlots<ThreadSlot>,
 }
 
 /// What a thread has of the pool, on cache lines of its own.
 #[repr(align(128))]
-struct Lane {
+struct ThreadSlot {
     kept: Kept,
     own: Owned<Own>,
 }
 
 /// What other threads don't reach.
 struct Own {
-    /// What the lane's `Kept` is while it has no place.
+    /// What the thread slot's `Kept` is while it has no place.
     empty: Cell<u64>,
     way: RefCell<Way>,
 }
@@ -36,7 +36,7 @@ struct Way {
     handle: Option<Handle>,
     /// At which page the next pull begins.
     page: usize,
-    /// Where the lane began, and how often it moved.
+    /// Where the thread began, and how often it moved.
     begin: usize,
     moves: usize,
     /// How many more places are pulled than returned until the next move.
@@ -56,8 +56,11 @@ impl Fixed {
             return Err(NewError::NoItems);
         }
         let library = Library::new(places).ok_or(NewError::Memory)?;
-        let lanes = Lanes::new();
-        Ok(Fixed { library, lanes })
+        let thread_slots = ThreadSlots::new();
+        Ok(Fixed {
+            library,
+            thread_slots,
+        })
     }
 
     /// Returns how many places there are.
@@ -68,10 +71,7 @@ impl Fixed {
     /// Pulls a place. `None` if all were out at one moment.
     #[inline(always)]
     pub(crate) fn pull(&self) -> Option<usize> {
-        let kept = threads::with_known(|number| {
-            let lane = self.lanes.get(number)?;
-            lane.kept.take_own(lane.own.get(number).empty.get())
-        });
+        let kept = threads::with_known(|number| self.thread_slots.get(number)?.take_own(number));
         kept.or_else(|| self.pull_further())
     }
 
@@ -95,8 +95,8 @@ impl Fixed {
     #[inline(always)]
     pub(crate) unsafe fn give_back(&self, place: usize) {
         let is_kept = threads::with_known(|number| {
-            let lane = self.lanes.get(number);
-            lane.is_some_and(|lane| lane.kept.keep(place, &lane.own.get(number).empty))
+            let thread_slot = self.thread_slots.get(number);
+            thread_slot.is_some_and(|thread_slot| thread_slot.keep(place, number))
         });
         if !is_kept {
             // SAFETY: the caller says it.
@@ -125,15 +125,15 @@ impl Fixed {
 
     /// Returns what a thread has, which is made if it isn't there. `None` if memory is refused.
     fn own<'o>(&'o self, number: &'o Number) -> Option<&'o Own> {
-        let lane = match self.lanes.get(number) {
-            Some(lane) => lane,
-            None => self.new_lane(number)?,
+        let thread_slot = match self.thread_slots.get(number) {
+            Some(thread_slot) => thread_slot,
+            None => self.new_thread_slot(number)?,
         };
-        Some(lane.own.get(number))
+        Some(thread_slot.own.get(number))
     }
 
     #[cold]
-    fn new_lane(&self, number: &Number) -> Option<&Lane> {
+    fn new_thread_slot(&self, number: &Number) -> Option<&ThreadSlot> {
         let pages = self.places().div_ceil(PAGE);
         let mut way = Way::new(number.get(), pages);
         self.library.open(&mut way.handle);
@@ -142,12 +142,12 @@ impl Fixed {
             way: RefCell::new(way),
         };
         let (kept, own) = (Kept::new(), Owned::new(number, own));
-        self.lanes.make(number, Lane { kept, own })
+        self.thread_slots.make(number, ThreadSlot { kept, own })
     }
 
-    /// Pulls a place that a lane keeps or that the library has. `None` if all were out at a moment
-    /// of the library's refusal: no lane kept a place then, since none did before and after it, and
-    /// none kept one between.
+    /// Pulls a place that a thread keeps or that the library has. `None` if all were out at a moment
+    /// of the library's refusal: no thread kept a place then, since none did before and after it,
+    /// and none kept one between.
     #[cold]
     #[inline(never)]
     fn look(&self, handle: &mut Option<Handle>) -> Option<usize> {
@@ -167,20 +167,34 @@ impl Fixed {
         }
     }
 
-    /// Takes a place that a lane keeps.
+    /// Takes a place that a thread keeps.
     ///
     /// # Errors
     ///
-    /// How often lanes kept a place until none did.
+    /// How often threads kept a place until none did.
     fn take_kept(&self) -> Result<usize, u64> {
         let mut count = 0_u64;
-        for lane in self.lanes.all() {
-            match lane.kept.take() {
+        for thread_slot in self.thread_slots.all() {
+            match thread_slot.kept.take() {
                 Ok(place) => return Ok(place),
                 Err(often) => count = count.wrapping_add(often),
             }
         }
         Err(count)
+    }
+}
+
+impl ThreadSlot {
+    /// Takes the place that the thread keeps, for the thread itself.
+    #[inline(always)]
+    fn take_own(&self, number: &Number) -> Option<usize> {
+        self.kept.take_own(self.own.get(number).empty.get())
+    }
+
+    /// Keeps a place, if the thread keeps none.
+    #[inline(always)]
+    fn keep(&self, place: usize, number: &Number) -> bool {
+        self.kept.keep(place, &self.own.get(number).empty)
     }
 }
 
@@ -215,7 +229,7 @@ impl Kept {
         Err(seen >> 32)
     }
 
-    /// Takes the place, for the thread of the lane.
+    /// Takes the place, for the thread that keeps it.
     #[inline(always)]
     fn take_own(&self, empty: u64) -> Option<usize> {
         if self.load() == empty {
@@ -227,7 +241,7 @@ impl Kept {
         (seen != empty).then_some((seen & Kept::NONE) as usize)
     }
 
-    /// Keeps a place for the thread of the lane, if there is none, and counts it.
+    /// Keeps a place for the thread itself, if there is none, and counts it.
     #[inline(always)]
     fn keep(&self, place: usize, empty: &Cell<u64>) -> bool {
         let place = place as u64;
@@ -293,7 +307,7 @@ impl Way {
     fn go_on(&mut self, page: usize, pages: usize) {
         if page != self.page {
             // Others come there too, so the next pull begins apart from them, behind that page or
-            // before it. If it finds nothing there, the lane keeps to the page of its place.
+            // before it. If it finds nothing there, the thread keeps to the page of its place.
             let apart = [self.begin, self.begin.wrapping_neg(), 0][self.moves % 3];
             self.page = page.wrapping_add(apart) % pages;
             self.moves += 1;

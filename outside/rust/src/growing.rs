@@ -1,17 +1,17 @@
 //! Which places of a pool that grows are held. A thread keeps some that it returned, by plain reads
 //! and writes. At its end it returns them.
-mod lane;
+mod thread_slot;
 
-use crate::lanes::Lanes;
 use crate::library::Library;
 use crate::once::OnceBox;
 use crate::refuse;
 use crate::sys::{Handle, PAGE};
+use crate::thread_slots::ThreadSlots;
 use crate::threads::{self, Number, Owned};
-use lane::{Lane, Last, Way};
 use std::ptr::NonNull;
 use std::sync::atomic::{AtomicBool, AtomicUsize, Ordering::Relaxed, Ordering::SeqCst};
 use std::sync::Arc;
+use thread_slot::{Last, ThreadSlot, Way};
 
 /// How many shards a pool has. So many threads pull and return without meeting.
 pub(crate) const SHARDS: usize = 8;
@@ -54,7 +54,7 @@ impl PartName {
 /// The places of a pool.
 pub(crate) struct Growing {
     shards: [OnceBox<[OnceBox<Part>; PARTS]>; SHARDS],
-    lanes: Lanes<OwnLines<Owned<Lane>>>,
+    thread_slots: ThreadSlots<OwnLines<Owned<ThreadSlot>>>,
 }
 
 /// It has cache lines of its own.
@@ -95,20 +95,20 @@ impl Growing {
     pub(crate) fn new() -> Growing {
         Growing {
             shards: [const { OnceBox::new() }; SHARDS],
-            lanes: Lanes::new(),
+            thread_slots: ThreadSlots::new(),
         }
     }
 
     /// Pulls the place that the thread returned last, if it keeps it.
     #[inline(always)]
     pub(crate) fn pull_last(&self) -> Option<Held> {
-        threads::with_known(|number| self.lanes.get(number)?.0.get(number).take_last())
+        threads::with_known(|number| self.thread_slots.get(number)?.0.get(number).take_last())
     }
 
     /// Pulls another place that the thread keeps.
     #[inline(always)]
     pub(crate) fn pull_kept(&self) -> Option<Held> {
-        threads::with_known(|number| self.lanes.get(number)?.0.get(number).take_kept())
+        threads::with_known(|number| self.thread_slots.get(number)?.0.get(number).take_kept())
     }
 
     /// Pulls a place that was returned, or a fresh one.
@@ -120,8 +120,8 @@ impl Growing {
     pub(crate) fn pull(self: &Arc<Self>) -> Result<usize, PartName> {
         threads::with(|number| {
             let home = number.as_ref().map_or(0, |number| number.get() % SHARDS);
-            match number.and_then(|number| self.lane(number)) {
-                Some(lane) => self.find(&mut lane.way.borrow_mut(), home),
+            match number.and_then(|number| self.thread_slot(number)) {
+                Some(thread_slot) => self.find(&mut thread_slot.way.borrow_mut(), home),
                 None => self.find(&mut Way::without_handles(), home),
             }
         })
@@ -135,8 +135,8 @@ impl Growing {
     #[inline(always)]
     pub(crate) unsafe fn give_back(self: &Arc<Self>, held: Held) {
         let is_kept = threads::with_known(|number| {
-            let lane = self.lanes.get(number);
-            lane.is_some_and(|lane| lane.0.get(number).keep_last(held))
+            let thread_slot = self.thread_slots.get(number);
+            thread_slot.is_some_and(|thread_slot| thread_slot.0.get(number).keep_last(held))
         });
         if !is_kept {
             // SAFETY: the caller says it.
@@ -152,8 +152,8 @@ impl Growing {
     #[inline(never)]
     unsafe fn give_back_further(self: &Arc<Self>, held: Held) {
         let is_kept = threads::with_known(|number| {
-            let lane = self.lanes.get(number);
-            lane.is_some_and(|lane| lane.0.get(number).keep(held))
+            let thread_slot = self.thread_slots.get(number);
+            thread_slot.is_some_and(|thread_slot| thread_slot.0.get(number).keep(held))
         });
         if !is_kept && threads::with(|number| self.make_room(number?, held)).is_none() {
             // SAFETY: the caller says it.
@@ -165,13 +165,13 @@ impl Growing {
     /// memory is refused.
     #[cold]
     fn make_room(self: &Arc<Self>, number: &Number, held: Held) -> Option<()> {
-        let lane = self.lane(number)?;
-        if let Last::Kept(_) = lane.last.get() {
-            self.spill(lane, SPILLED);
-            lane.keep(held);
+        let thread_slot = self.thread_slot(number)?;
+        if let Last::Kept(_) = thread_slot.last.get() {
+            self.spill(thread_slot, SPILLED);
+            thread_slot.keep(held);
         } else {
             threads::note(Arc::downgrade(self))?;
-            lane.last.set(Last::Kept(held));
+            thread_slot.last.set(Last::Kept(held));
         }
         Some(())
     }
@@ -190,12 +190,12 @@ impl Growing {
 
     /// Returns what a thread keeps, at its end.
     pub(crate) fn return_kept(&self, number: &Number) {
-        if let Some(lane) = self.lanes.get(number) {
-            let lane = lane.0.get(number);
-            self.spill(lane, usize::MAX);
-            if let Last::Kept(held) = lane.last.replace(Last::Unused) {
-                // SAFETY: the lane kept it, and has it no more.
-                unsafe { self.give_back_kept(&mut lane.way.borrow_mut(), held) };
+        if let Some(thread_slot) = self.thread_slots.get(number) {
+            let thread_slot = thread_slot.0.get(number);
+            self.spill(thread_slot, usize::MAX);
+            if let Last::Kept(held) = thread_slot.last.replace(Last::Unused) {
+                // SAFETY: the thread slot kept it, and has it no more.
+                unsafe { self.give_back_kept(&mut thread_slot.way.borrow_mut(), held) };
             }
         }
     }
@@ -214,20 +214,20 @@ impl Growing {
         Some(())
     }
 
-    /// Returns the lane of a thread, which is made if it isn't there. `None` if memory is refused.
+    /// Returns a thread's slot, which is made if it isn't there. `None` if memory is refused.
     #[inline(always)]
-    fn lane<'l>(self: &'l Arc<Self>, number: &'l Number) -> Option<&'l Lane> {
-        let lane = match self.lanes.get(number) {
-            Some(lane) => lane,
-            None => self.new_lane(number)?,
+    fn thread_slot<'l>(self: &'l Arc<Self>, number: &'l Number) -> Option<&'l ThreadSlot> {
+        let thread_slot = match self.thread_slots.get(number) {
+            Some(thread_slot) => thread_slot,
+            None => self.new_thread_slot(number)?,
         };
-        Some(lane.0.get(number))
+        Some(thread_slot.0.get(number))
     }
 
     #[cold]
-    fn new_lane(self: &Arc<Self>, number: &Number) -> Option<&OwnLines<Owned<Lane>>> {
-        self.lanes
-            .make(number, OwnLines(Owned::new(number, Lane::new())))
+    fn new_thread_slot(self: &Arc<Self>, number: &Number) -> Option<&OwnLines<Owned<ThreadSlot>>> {
+        self.thread_slots
+            .make(number, OwnLines(Owned::new(number, ThreadSlot::new())))
     }
 
     /// Finds a place that was returned, or gives a fresh one. A place that others return and pull
@@ -289,10 +289,10 @@ impl Growing {
     }
 
     /// Returns some places that a thread keeps beside its last one, those that it kept first.
-    fn spill(&self, lane: &Lane, count: usize) {
-        let way = &mut *lane.way.borrow_mut();
-        for held in lane.spill(count) {
-            // SAFETY: the lane kept it, and has it no more.
+    fn spill(&self, thread_slot: &ThreadSlot, count: usize) {
+        let way = &mut *thread_slot.way.borrow_mut();
+        for held in thread_slot.spill(count) {
+            // SAFETY: the thread slot kept it, and has it no more.
             unsafe { self.give_back_kept(way, held) };
         }
     }

@@ -1,5 +1,5 @@
 //! An item that is held.
-use crate::cells::Slot;
+use crate::slots::Slot;
 use std::fmt::{self, Debug, Formatter};
 use std::marker::PhantomData;
 use std::mem::ManuallyDrop;

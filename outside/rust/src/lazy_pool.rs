@@ -3,7 +3,7 @@
 mod held;
 mod waiters;
 
-use crate::cells::{filled, Cells};
+use crate::slots::{filled, Slots};
 use crate::{fixed::Fixed, guard::Guard, pool::NewError, sys::PAGE};
 use held::{keep_if, Held};
 use std::fmt::{self, Debug, Display, Formatter};
@@ -62,7 +62,7 @@ struct States([AtomicU8; PAGE]);
 /// # Ok::<(), Box<dyn std::error::Error>>(())
 /// ```
 pub struct LazyPool<T, E> {
-    items: Cells<Option<T>>,
+    items: Slots<Option<T>>,
     /// The places that are empty, and those with an item: two pools of places over the same
     /// numbers. Each place is held in at least one of them, and who pulled it from either has it
     /// alone.
@@ -116,7 +116,7 @@ impl<T, E> LazyPool<T, E> {
         let [empty, made] = [Fixed::new(items)?, Fixed::new(items)?];
         while made.pull().is_some() {} // no item is made yet
         Ok(LazyPool {
-            items: Cells::new((0..items).map(|_| None)).ok_or(NewError::Memory)?,
+            items: Slots::new((0..items).map(|_| None)).ok_or(NewError::Memory)?,
             kinds: [empty, made],
             states,
             waiters: Waiters::default(),

@@ -4,8 +4,6 @@
 #![forbid(unsafe_op_in_unsafe_fn)]
 
 #[allow(unsafe_code)]
-mod cells;
-#[allow(unsafe_code)]
 mod drop_in;
 #[allow(unsafe_code)]
 mod fixed;
@@ -13,7 +11,6 @@ mod fixed;
 mod growing;
 #[allow(unsafe_code)]
 mod guard;
-mod lanes;
 mod lazy_pool;
 #[allow(unsafe_code)]
 mod library;
@@ -24,10 +21,13 @@ mod once;
 #[allow(unsafe_code)]
 mod pool;
 #[allow(unsafe_code)]
+mod slots;
+#[allow(unsafe_code)]
 mod sys;
 #[cfg(test)]
 #[path = "../unit_tests/interleavings.rs"]
 mod tests;
+mod thread_slots;
 #[allow(unsafe_code)]
 mod threads;
 

@@ -1,7 +1,7 @@
 //! The pool of a fixed number of items.
-use crate::cells::{Cells, Slot};
 use crate::fixed::Fixed;
 use crate::guard::{Guard, Source};
+use crate::slots::{Slot, Slots};
 use std::collections::TryReserveError;
 use std::fmt::{self, Debug, Display, Formatter};
 use std::{error::Error, iter, ops::Deref, sync::Arc};
@@ -18,7 +18,7 @@ pub type OwnedReusable<T, R = Reset<T>> = Guard<Arc<Pool<T, R>>, T>;
 /// A pull waits for no other one, and asks for no memory, but where [what it costs](crate) says so.
 pub struct Pool<T, R = Reset<T>> {
     places: Fixed,
-    items: Cells<T>,
+    items: Slots<T>,
     reset: R,
 }
 
@@ -52,7 +52,7 @@ impl<T, R: Fn(&mut T)> Pool<T, R> {
     pub fn with_reset(items: usize, init: impl FnMut() -> T, reset: R) -> Result<Self, NewError> {
         let values = iter::repeat_with(init).take(items);
         Ok(Pool {
-            items: Cells::new(values).ok_or(NewError::Memory)?,
+            items: Slots::new(values).ok_or(NewError::Memory)?,
             places: Fixed::new(items)?,
             reset,
         })

@@ -149,7 +149,7 @@ fn items_of_another_threads_part_are_found() {
     assert_eq!(calls.load(SeqCst), made);
 }
 
-/// Threads that come one after the other have one number, and so the same lane.
+/// Threads that come one after the other have one number, and so the same slot.
 #[test]
 fn a_thread_returns_what_it_kept_at_its_end() {
     for count in 0..20 {

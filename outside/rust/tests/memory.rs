@@ -93,7 +93,7 @@ fn returns_ask_for_no_memory_whoever_makes_them() {
         assert_eq!(held.len(), 200);
         let other = thread::scope(|scope| {
             let other = scope.spawn(|| {
-                held.pop(); // the thread has its lane
+                held.pop(); // the thread has its slot
                 ask(held)
             });
             other.join().expect("it ends")

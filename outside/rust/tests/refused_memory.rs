@@ -56,7 +56,7 @@ fn an_opening_that_is_refused_memory_says_so_and_leaves_nothing() {
     );
 }
 
-/// A thread asks for the memory of its number and of its lane at its first call, and does without.
+/// A thread asks for the memory of its number and of its slot at its first call, and does without.
 #[test]
 fn a_pull_whose_thread_is_refused_memory_answers_an_item() {
     let _alone = heap::alone();
@@ -137,7 +137,7 @@ fn where_memory_is_refused_a_pool_is_and_no_pull() {
         return;
     }
     let (pool, other) = (zeros(ITEMS), zeros(1));
-    drop((pool.pull(), other.pull())); // the thread has its lanes
+    drop((pool.pull(), other.pull())); // the thread has its slots
     let mut held = Vec::with_capacity(ITEMS);
     let mut blocks = Vec::with_capacity(1 << 20);
     let for_the_harness = vec![0_u8; 1 << 20];

@@ -201,7 +201,7 @@ fn an_item_that_a_third_thread_keeps_is_pulled_by_one() {
 }
 
 #[test]
-fn an_item_that_moves_from_lane_to_lane_is_found() {
+fn an_item_that_moves_between_thread_slots_is_found() {
     let twice = |two: &Two| (0..2).for_each(|_| bring_back(pull(two)));
     let once = |two: &Two| bring_back(pull(two));
     explore(1_000, two_of_which_one_is_kept, [twice, once], all_are_free);
@@ -265,7 +265,7 @@ fn a_pull_of_one_item_is_refused_only_while_it_is_held() {
         let pool = Pool::new(1, || Cell::new(0), |_| ()).expect("there is memory");
         One(Arc::new(pool), Mutex::new(Vec::new()))
     };
-    // A thread that has ended kept it, so one of the two has its lane.
+    // A thread that has ended kept it, so one of the two has its slot.
     let kept = || {
         let one = free();
         thread::scope(|scope| scope.spawn(|| drop(one.0.pull())).join()).expect("it ends");
@@ -311,7 +311,7 @@ fn an_item_that_moves_is_found() {
             let mut items: Vec<_> = (0..40).map(|_| Some(pool.pull_owned())).collect();
             let (free, moved) = (items[free].take(), items[moved].take());
             thread::spawn(move || drop(free)).join().expect("it ends");
-            // The next thread has this one's lane, and begins where this one pulled.
+            // The next thread has this one's slot, and begins where this one pulled.
             let other = Arc::clone(&pool);
             thread::spawn(move || drop(other.pull()))
                 .join()

@@ -1,10 +1,10 @@
 //! A pool that grows, by the names of lockfree-object-pool 0.1.6.
-use crate::cells::{Cells, Slot};
 use crate::growing::{Growing, Held, PartName, PARTS, SHARDS};
 use crate::guard::AtEnd;
 use crate::once::OnceBox;
 use crate::pool::Reset;
 use crate::refuse;
+use crate::slots::{Slot, Slots};
 use std::alloc::{handle_alloc_error, Layout};
 use std::fmt::{self, Debug, Formatter};
 use std::iter;
@@ -34,7 +34,7 @@ pub type LinearOwnedReusable<T> = LinearGuard<Arc<LinearObjectPool<T>>, T>;
 pub struct LinearObjectPool<T> {
     places: Arc<Growing>,
     /// What lies at the places of each part of each shard.
-    shards: [OnceBox<[OnceBox<Cells<Option<T>>>; PARTS]>; SHARDS],
+    shards: [OnceBox<[OnceBox<Slots<Option<T>>>; PARTS]>; SHARDS],
     init: Box<dyn Fn() -> T + Send + Sync>,
     reset: Reset<T>,
 }
@@ -117,7 +117,7 @@ impl<T> LinearObjectPool<T> {
         };
         let (part, places) = (shard.get(name.part)?, Self::FIRST << name.part);
         if part.get().is_none() {
-            part.set(Cells::new(iter::repeat_with(|| None).take(places))?)?;
+            part.set(Slots::new(iter::repeat_with(|| None).take(places))?)?;
         }
         self.places.make(name, places)
     }

@@ -1,7 +1,7 @@
 //! A place of a lazy pool from its pull to its return.
 use super::{LazyPool, LazyReusable, EMPTY, IN_USE, MADE};
-use crate::cells::Slot;
 use crate::guard::{AtEnd, Guard, Source};
+use crate::slots::Slot;
 use std::sync::atomic::Ordering::Relaxed;
 use std::{mem, ops::Deref};
 

@@ -13,7 +13,7 @@ const TOGETHER: usize = 4;
 const APART: usize = 17;
 
 /// What a thread has of a pool.
-pub(super) struct Lane {
+pub(super) struct ThreadSlot {
     pub(super) last: Cell<Last>,
     /// The places that it keeps beside its last one.
     kept: [Cell<Option<Held>>; KEPT],
@@ -43,10 +43,10 @@ pub(super) struct Way {
     none: Option<Handle>,
 }
 
-impl Lane {
+impl ThreadSlot {
     /// Creates what a thread has.
-    pub(super) fn new() -> Lane {
-        Lane {
+    pub(super) fn new() -> ThreadSlot {
+        ThreadSlot {
             last: Cell::new(Last::Unused),
             kept: [const { Cell::new(None) }; KEPT],
             count: Cell::new(0),

@@ -12,17 +12,17 @@ pub struct Slot<V>(pub(crate) UnsafeCell<V>);
 unsafe impl<V: Send> Sync for Slot<V> {}
 
 /// Values by their places.
-pub(crate) struct Cells<V>(Vec<Slot<V>>);
+pub(crate) struct Slots<V>(Vec<Slot<V>>);
 
-impl<V> Cells<V> {
+impl<V> Slots<V> {
     /// Creates the slots of these values, in their order. `None` if memory is refused.
-    pub(crate) fn new(values: impl ExactSizeIterator<Item = V>) -> Option<Cells<V>> {
+    pub(crate) fn new(values: impl ExactSizeIterator<Item = V>) -> Option<Slots<V>> {
         let mut slots = Vec::new();
         // Some room behind them stays free, so that no other memory is on their cache lines.
         let room = values.len().checked_add(128 / size_of::<V>().max(1))?;
         slots.try_reserve_exact(room).ok()?;
         slots.extend(values.map(|value| Slot(UnsafeCell::new(value))));
-        Some(Cells(slots))
+        Some(Slots(slots))
     }
 
     /// Returns the slot of a place.
