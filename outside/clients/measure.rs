@@ -1,5 +1,6 @@
 //! How long a match of a short text takes by a `Regex` that threads share, and what a `Regex` costs
-//! that is made and used once: of a crate as it is, and with our pool in it.
+//! that is made and used once: of a crate as it is, with our pool in it, and without a pool.
+use std::convert::identity;
 use std::hint::black_box;
 use std::sync::Barrier;
 use std::time::Instant;
@@ -33,9 +34,10 @@ fn used() -> f64 {
     (info.used + info.mapped) as f64
 }
 
-/// The work on the `Regex` of a crate.
+/// The work on the `Regex` of a crate. A thread uses what this call gives it of the one that threads
+/// share.
 macro_rules! work {
-    ($name:ident) => {
+    ($name:ident, $of_thread:expr) => {
         mod $name {
             use super::*;
             client!($name);
@@ -45,10 +47,11 @@ macro_rules! work {
                 let regex = new();
                 let start = Barrier::new(threads);
                 let run = || {
+                    let mine = $of_thread(&regex);
                     start.wait();
                     let begun = Instant::now();
                     for _ in 0..turns {
-                        assert!(is_match(&regex));
+                        assert!(is_match(&mine));
                     }
                     begun.elapsed().as_nanos() as f64 / f64::from(turns)
                 };
@@ -82,8 +85,10 @@ macro_rules! work {
     };
 }
 
-work!(theirs);
-work!(ours);
+work!(theirs, identity);
+work!(ours, identity);
+#[cfg(feature = "without")]
+work!(without, Clone::clone);
 
 /// The middle one of each column.
 fn middle(rounds: &[[f64; 5]]) -> [f64; 5] {
@@ -99,19 +104,32 @@ fn print(name: &str, row: [f64; 5]) {
     println!("| {name} | {cells}");
 }
 
+type Measure = fn(u32) -> [f64; 5];
+
 fn main() {
     let turns = env::args().nth(1).map_or(40_000, |turns| {
         turns.parse().expect("the number of turns")
     });
-    let (mut own, mut pools) = (Vec::new(), Vec::new());
+    let kinds = [
+        ("its own", theirs::measure as Measure),
+        ("ours", ours::measure),
+        #[cfg(feature = "without")]
+        ("none", without::measure),
+    ];
+    let mut rounds = kinds.map(|_| Vec::new());
     for _ in 0..ROUNDS {
-        own.push(theirs::measure(turns));
-        pools.push(ours::measure(turns));
+        for (rows, (_, measure)) in rounds.iter_mut().zip(kinds) {
+            rows.push(measure(turns));
+        }
     }
-    let [own, pools] = [middle(&own), middle(&pools)];
+    let rows = rounds.map(|rounds| middle(&rounds));
     println!("| Pool | ns, 1 thread | 2 | 4 | made, us | bytes |");
     println!("|---|---:|---:|---:|---:|---:|");
-    print("its own", own);
-    print("ours", pools);
-    print("ratio", std::array::from_fn(|at| pools[at] / own[at]));
+    for ((name, _), row) in kinds.iter().zip(rows) {
+        print(name, row);
+    }
+    for ((name, _), row) in kinds.iter().zip(rows).skip(1) {
+        let name = format!("{name}, ratio");
+        print(&name, std::array::from_fn(|at| row[at] / rows[0][at]));
+    }
 }
