@@ -4,6 +4,7 @@
 use crate::{threads, LinearObjectPool, OwnedReusable, Pool};
 use std::cell::{Cell, RefCell};
 use std::collections::VecDeque;
+use std::rc::Rc;
 use std::sync::atomic::{AtomicUsize, Ordering::SeqCst};
 use std::sync::{mpsc, Arc, Condvar, Mutex, MutexGuard, PoisonError};
 use std::{iter, mem, thread};
@@ -372,12 +373,12 @@ fn an_item_that_two_threads_keep_in_turn_is_found() {
     let steps = || 0..8;
     let all = steps().flat_map(|a| steps().flat_map(move |b| steps().map(move |c| [a, b, c])));
     let Two(pool, _) = two();
-    let workers = Arc::new([(); 2].map(|()| Worker::new(&pool)));
+    let workers = Rc::new([(); 2].map(|()| Worker::new(&pool)));
     for steps in all {
         (0..2).for_each(|worker| workers[worker].order(true));
         workers[1].order(false); // it keeps its item
         let moves = steps.into_iter().enumerate().map(|(turn, before)| {
-            let workers = Arc::clone(&workers);
+            let workers = Rc::clone(&workers);
             let call = move || {
                 workers[turn % 2].order(false);
                 workers[(turn + 1) % 2].order(true);

@@ -18,6 +18,9 @@ pub type LinearReusable<'a, T> = LinearGuard<&'a LinearObjectPool<T>, T>;
 /// An item that was pulled with an owner of its [`LinearObjectPool`].
 pub type LinearOwnedReusable<T> = LinearGuard<Arc<LinearObjectPool<T>>, T>;
 
+/// What lies at the places of each part of a shard.
+type Parts<T> = [OnceBox<Slots<Option<T>>>; PARTS];
+
 /// A pool whose pulls are never refused.
 ///
 /// An item is made when all that were made are held, or kept by other threads.
@@ -34,7 +37,7 @@ pub type LinearOwnedReusable<T> = LinearGuard<Arc<LinearObjectPool<T>>, T>;
 pub struct LinearObjectPool<T> {
     places: Arc<Growing>,
     /// What lies at the places of each part of each shard.
-    shards: [OnceBox<[OnceBox<Slots<Option<T>>>; PARTS]>; SHARDS],
+    shards: [OnceBox<Parts<T>>; SHARDS],
     init: Box<dyn Fn() -> T + Send + Sync>,
     reset: Reset<T>,
 }
