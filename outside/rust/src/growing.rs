@@ -82,7 +82,7 @@ pub(crate) struct Held {
 // SAFETY: only who has the place goes to the item, if that may be sent to where he is.
 unsafe impl Send for Held {}
 
-/// What a look at all parts found.
+/// What a look at a part or at all parts found.
 enum Look {
     Found(usize),
     /// Some part said that a place was returned, but others had pulled it.
@@ -230,10 +230,19 @@ impl Growing {
             .make(number, OwnLines(Owned::new(number, ThreadSlot::new())))
     }
 
-    /// Finds a place that was returned, or gives a fresh one. A place that others return and pull
-    /// may pass by a look at all parts, so there are more of them while some part says that a place
-    /// was returned.
+    /// Finds a place that was returned, or gives a fresh one. It looks first at the part of the last
+    /// pull.
+    #[inline(always)]
     fn find(&self, way: &mut Way, home: usize) -> Result<usize, PartName> {
+        let last = way.part.map(|name| (name, self.part(name)));
+        let found = last.and_then(|(name, part)| self.pull_at(name, part, way).ok());
+        found.map_or_else(|| self.find_further(way, home), Ok)
+    }
+
+    /// Finds a place at any part. A place that others return and pull may pass by a look at all
+    /// parts, so there are more of them while some part says that a place was returned.
+    #[inline(never)]
+    fn find_further(&self, way: &mut Way, home: usize) -> Result<usize, PartName> {
         for _ in 0..ROUNDS {
             match self.look(way, home) {
                 Look::Found(at) => return Ok(at),
@@ -250,23 +259,31 @@ impl Growing {
         }
     }
 
-    /// Looks at each part, and first at that of the last pull.
+    /// Looks at each part.
     fn look(&self, way: &mut Way, home: usize) -> Look {
         let mut look = Look::Empty;
-        let last = way.part.map(|name| (name, self.part(name)));
-        for (name, part) in last.into_iter().chain(self.parts(home)) {
-            #[cfg(test)]
-            crate::tests::step();
-            if part.returned.load(SeqCst) {
-                look = Look::Refused;
-                if let Some(place) = part.pull(name, way) {
-                    way.part = Some(name);
-                    way.go_on(place / PAGE, part.library.places().div_ceil(PAGE));
-                    return Look::Found(name.at(place));
-                }
+        for (name, part) in self.parts(home) {
+            match self.pull_at(name, part, way) {
+                Ok(at) => return Look::Found(at),
+                Err(Look::Empty) => {}
+                Err(refused) => look = refused,
             }
         }
         look
+    }
+
+    /// Pulls a place of a part, if it says that one was returned.
+    #[inline(always)]
+    fn pull_at(&self, name: PartName, part: &Part, way: &mut Way) -> Result<usize, Look> {
+        #[cfg(test)]
+        crate::tests::step();
+        if !part.returned.load(SeqCst) {
+            return Err(Look::Empty);
+        }
+        let place = part.pull(name, way).ok_or(Look::Refused)?;
+        way.part = Some(name);
+        way.go_on(place / PAGE, part.library.places().div_ceil(PAGE));
+        Ok(name.at(place))
     }
 
     /// Returns all parts, those of this shard first.

@@ -73,7 +73,10 @@ pub(crate) fn with_known<A>(call: impl FnOnce(&Number) -> A) -> A {
 /// in a call within a call.
 #[inline(always)]
 pub(crate) fn with<A>(call: impl FnOnce(Option<&Number>) -> A) -> A {
-    let known = find();
+    let known = match KNOWN.get() {
+        known if known < NUMBERS => known,
+        _ => find(),
+    };
     if known < NUMBERS {
         KNOWN.set(WITHIN);
         call(Some(&Lent(Number::new(known)).0))
@@ -82,7 +85,8 @@ pub(crate) fn with<A>(call: impl FnOnce(Option<&Number>) -> A) -> A {
     }
 }
 
-/// Returns the thread's number, or no number.
+/// Asks for a number, if the thread has none. Returns what it has then.
+#[inline(never)]
 fn find() -> usize {
     let left = LEFT.get();
     match KNOWN.get() {

@@ -138,15 +138,20 @@ impl Way {
         let Some(handles) = &mut self.handles else {
             return &mut self.none;
         };
-        let missing = (name.number() + 1).saturating_sub(handles.len());
-        if handles.try_reserve(missing).is_err() {
-            return &mut self.none;
+        let number = name.number();
+        if !matches!(handles.get(number), Some(Some(_))) {
+            open(handles, number, library);
         }
+        handles.get_mut(number).unwrap_or(&mut self.none)
+    }
+}
+
+/// Opens the handle of this number. It stays away or empty if memory is refused.
+#[cold]
+fn open(handles: &mut Vec<Option<Handle>>, number: usize, library: &Library) {
+    let missing = (number + 1).saturating_sub(handles.len());
+    if handles.try_reserve(missing).is_ok() {
         handles.extend(iter::repeat_with(|| None).take(missing));
-        let handle = &mut handles[name.number()];
-        if handle.is_none() {
-            library.open(handle);
-        }
-        handle
+        library.open(&mut handles[number]);
     }
 }
