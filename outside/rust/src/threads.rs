@@ -63,7 +63,7 @@ impl Drop for Lent {
     }
 }
 
-/// Makes this call with the thread's number, if that is known. The call makes no other one.
+/// Makes this call with the thread's number, if that is known. A call within it has that number too.
 #[inline(always)]
 pub(crate) fn with_known<A>(call: impl FnOnce(&Number) -> A) -> A {
     call(&Number::new(KNOWN.get()))

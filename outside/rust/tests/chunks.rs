@@ -163,6 +163,21 @@ fn a_thread_returns_what_it_kept_at_its_end() {
     }
 }
 
+/// Such a thread pulls some places before they are needed, or returns many at a time.
+#[test]
+fn a_thread_that_only_pulls_or_only_returns_leaves_nothing_at_its_end() {
+    let (pool, _one, calls) = counting_pool();
+    let mut items: Vec<_> = (0..5_000).map(|_| pool.pull()).collect();
+    for more in 0..3 {
+        in_a_thread(move || drop(items));
+        let mut pulled = Vec::new();
+        in_a_thread(|| pulled.extend((0..3_000 + more).map(|_| pool.pull())));
+        pulled.extend((more..2_000).map(|_| pool.pull()));
+        assert_eq!(calls.load(SeqCst), 5_000);
+        items = pulled;
+    }
+}
+
 #[test]
 fn an_item_whose_making_panics_is_made_at_a_later_pull() {
     static CALLS: AtomicUsize = AtomicUsize::new(0);

@@ -4,8 +4,8 @@ use kundratu_pool::{LinearObjectPool, LinearOwnedReusable, OwnedReusable, Pool};
 use std::cell::RefCell;
 use std::collections::HashSet;
 use std::panic::{catch_unwind, AssertUnwindSafe};
-use std::sync::atomic::{AtomicUsize, Ordering::SeqCst};
-use std::sync::{mpsc, Arc, Barrier, LazyLock, Mutex};
+use std::sync::atomic::{AtomicBool, AtomicUsize, Ordering::SeqCst};
+use std::sync::{mpsc, Arc, Barrier, LazyLock, Mutex, OnceLock};
 use std::{iter, mem, thread};
 
 /// An item that tells whether two hold it.
@@ -250,6 +250,42 @@ fn an_init_that_panics_leaves_nothing_behind() {
         0,
         "forgotten items are dropped with their pool"
     );
+}
+
+/// A thread that only pulls takes places ahead, and makes the items of those whose `init` panicked
+/// before. Such an `init` may fill what the thread keeps.
+#[test]
+fn an_init_may_return_items_while_places_are_pulled_ahead() {
+    const DEEP: usize = 600;
+    static POOL: OnceLock<LinearObjectPool<usize>> = OnceLock::new();
+    static CALLS: AtomicUsize = AtomicUsize::new(0);
+    // How many calls pull once more and then panic, and whether a call pulls and returns some.
+    static PANICS: AtomicUsize = AtomicUsize::new(0);
+    static RETURNS: AtomicBool = AtomicBool::new(false);
+    let pull = || POOL.get().expect("the pool is there").pull();
+    let init = move || {
+        if let Some(left) = PANICS.load(SeqCst).checked_sub(1) {
+            PANICS.store(left, SeqCst);
+            drop(pull());
+            panic!("on purpose");
+        }
+        if RETURNS.swap(false, SeqCst) {
+            drop((0..9).map(|_| pull()).collect::<Vec<_>>());
+            RETURNS.store(true, SeqCst);
+        }
+        CALLS.fetch_add(1, SeqCst)
+    };
+    let _ = POOL.set(LinearObjectPool::new(init, |_| ()));
+    let many = || (0..3 * DEEP).map(|_| pull()).collect::<Vec<_>>();
+    let held = many();
+    PANICS.store(DEEP, SeqCst);
+    assert!(catch_unwind(AssertUnwindSafe(|| drop(pull()))).is_err());
+    drop(held);
+    RETURNS.store(true, SeqCst);
+    let held = many();
+    let rest: Vec<_> = (0..DEEP).map(|_| pull()).collect();
+    let items: HashSet<usize> = held.iter().chain(&rest).map(|item| **item).collect();
+    assert_eq!(items.len(), 4 * DEEP, "two have one");
 }
 
 #[test]

@@ -320,9 +320,11 @@ fn an_item_that_moves_is_found() {
             let other = Arc::clone(&pool);
             let call = move || {
                 thread::spawn(move || drop(moved)).join().expect("it ends");
-                thread::spawn(move || mem::forget(other.pull()))
-                    .join()
-                    .expect("it ends");
+                let pull = move || {
+                    threads::with(|_| ()); // it has its number
+                    mem::forget(other.pull());
+                };
+                thread::spawn(pull).join().expect("it ends");
             };
             MOVES.set(VecDeque::from([(
                 before,

@@ -19,7 +19,13 @@ pub type LinearReusable<'a, T> = LinearGuard<&'a LinearObjectPool<T>, T>;
 pub type LinearOwnedReusable<T> = LinearGuard<Arc<LinearObjectPool<T>>, T>;
 
 /// What lies at the places of each part of a shard.
-type Parts<T> = [OnceBox<Slots<Option<T>>>; PARTS];
+type Parts<T> = [OnceBox<Slots<Option<Item<T>>>>; PARTS];
+
+/// An item, and the place where it lies. So a guard has one word for both, and is sent with less.
+struct Item<T> {
+    item: T,
+    at: usize,
+}
 
 /// A pool whose pulls are never refused.
 ///
@@ -60,7 +66,7 @@ impl<T> LinearObjectPool<T> {
     /// Returns an item that was free, or a new one.
     #[inline(always)]
     pub fn pull(&self) -> LinearReusable<'_, T> {
-        let held = self.places.pull_last().unwrap_or_else(|| self.find());
+        let held = self.places.pull(|at| self.find(at));
         // SAFETY: it was pulled just now.
         unsafe { LinearGuard::new(self, held) }
     }
@@ -68,44 +74,64 @@ impl<T> LinearObjectPool<T> {
     /// Returns an item as [`pull`](LinearObjectPool::pull) does, with a guard that keeps the pool.
     #[inline(always)]
     pub fn pull_owned(self: &Arc<Self>) -> LinearOwnedReusable<T> {
-        let held = self.places.pull_last().unwrap_or_else(|| self.find());
+        let held = self.places.pull(|at| self.find(at));
         // SAFETY: as above.
         unsafe { LinearGuard::new(Arc::clone(self), held) }
     }
 
-    /// Pulls a place other than the thread's last one, and makes its item if there is none.
-    #[inline(never)]
-    fn find(&self) -> Held {
-        if let Some(held) = self.places.pull_kept() {
-            return held;
-        }
-        let at = loop {
-            match self.places.pull() {
-                Ok(at) => break at,
-                Err(name) => self.make(name).unwrap_or_else(Self::refused),
-            }
-        };
-        // SAFETY: it was pulled, and is returned here if making its item panics.
-        let empty = AtEnd(at, |at| unsafe { self.places.give_back_unkept(*at) });
+    /// Returns this place with its item, which is made if there is none. The place is pulled if it
+    /// isn't yet.
+    #[inline(always)]
+    fn find(&self, at: Option<usize>) -> Held {
+        let at = at.unwrap_or_else(|| self.pull_far());
         // SAFETY: it was pulled just now, and nobody else has it.
         let value = unsafe { &mut *self.slot(at).0.get() };
-        let item = NonNull::from(value.get_or_insert_with(&self.init)).cast();
-        mem::forget(empty);
+        let item = match value {
+            Some(item) => NonNull::from(item),
+            None => self.make_item(at, value),
+        };
+        let item = item.cast();
         Held { at, item }
     }
 
+    /// Makes the item of a place that was pulled. The place is returned if that panics.
+    #[cold]
+    #[inline(never)]
+    fn make_item(&self, at: usize, value: &mut Option<Item<T>>) -> NonNull<Item<T>> {
+        // SAFETY: the place was pulled, and is returned here if making its item panics.
+        let empty = AtEnd(at, |at| unsafe { self.places.give_back_unkept(*at) });
+        let item = (self.init)();
+        mem::forget(empty);
+        NonNull::from(value.insert(Item { item, at }))
+    }
+
+    /// Pulls a place of any part. One is made if there is none.
+    #[cold]
+    #[inline(never)]
+    fn pull_far(&self) -> usize {
+        loop {
+            match self.places.pull_far() {
+                Ok(at) => return at,
+                Err(name) => {
+                    let made = name.and_then(|name| self.make(name));
+                    made.unwrap_or_else(Self::refused);
+                }
+            }
+        }
+    }
+
     /// Returns where the item of a place lies.
-    fn slot(&self, at: usize) -> &Slot<Option<T>> {
+    #[inline(always)]
+    fn slot(&self, at: usize) -> &Slot<Option<Item<T>>> {
         let (name, place) = PartName::of(at);
-        let part = self.shards[name.shard]
-            .get()
-            .and_then(|shard| shard[name.part].get());
+        let shard = self.shards[name.shard()].get();
+        let part = shard.and_then(|shard| shard[name.part()].get());
         part.unwrap_or_else(|| refuse()).slot(place)
     }
 
     /// How many places the first part of a shard has: of great items few, since they have their
     /// room before they are made.
-    const FIRST: usize = match size_of::<Option<T>>() {
+    const FIRST: usize = match size_of::<Option<Item<T>>>() {
         0..=64 => 8,
         65..=256 => 2,
         _ => 1,
@@ -113,12 +139,12 @@ impl<T> LinearObjectPool<T> {
 
     /// Makes a part, if it isn't there. `None` if memory is refused, or there are too many.
     fn make(&self, name: PartName) -> Option<()> {
-        let shard = &self.shards[name.shard];
+        let shard = &self.shards[name.shard()];
         let shard = match shard.get() {
             Some(shard) => shard,
             None => shard.set([const { OnceBox::new() }; PARTS])?,
         };
-        let (part, places) = (shard.get(name.part)?, Self::FIRST << name.part);
+        let (part, places) = (&shard[name.part()], Self::FIRST << name.part());
         if part.get().is_none() {
             part.set(Slots::new(iter::repeat_with(|| None).take(places))?)?;
         }
@@ -140,9 +166,8 @@ impl<T> Debug for LinearObjectPool<T> {
 #[must_use = "the item is returned at once"]
 pub struct LinearGuard<P: Deref<Target = LinearObjectPool<T>>, T> {
     pool: P,
-    /// The place, which this guard alone holds, and its item, which lies there until the pool ends.
-    at: usize,
-    item: NonNull<T>,
+    /// What lies at a place, which this guard alone holds, until the pool ends.
+    item: NonNull<Item<T>>,
 }
 
 // SAFETY: a guard is the way to its item, which only it has, and an owner or a borrow of the pool.
@@ -160,8 +185,8 @@ impl<P: Deref<Target = LinearObjectPool<T>>, T> LinearGuard<P, T> {
     /// The place was pulled from this pool with its item, and nobody else has it.
     #[inline(always)]
     unsafe fn new(pool: P, held: Held) -> Self {
-        let (at, item) = (held.at, held.item.cast());
-        LinearGuard { pool, at, item }
+        let item = held.item.cast();
+        LinearGuard { pool, item }
     }
 }
 
@@ -171,7 +196,7 @@ impl<P: Deref<Target = LinearObjectPool<T>>, T> Deref for LinearGuard<P, T> {
     #[inline(always)]
     fn deref(&self) -> &T {
         // SAFETY: the guard alone has the place, and who writes there borrows it to write.
-        unsafe { self.item.as_ref() }
+        unsafe { &self.item.as_ref().item }
     }
 }
 
@@ -179,7 +204,7 @@ impl<P: Deref<Target = LinearObjectPool<T>>, T> DerefMut for LinearGuard<P, T> {
     #[inline(always)]
     fn deref_mut(&mut self) -> &mut T {
         // SAFETY: the guard alone has the place, and nobody else borrows it.
-        unsafe { self.item.as_mut() }
+        unsafe { &mut self.item.as_mut().item }
     }
 }
 
@@ -188,8 +213,9 @@ impl<P: Deref<Target = LinearObjectPool<T>>, T> Drop for LinearGuard<P, T> {
     #[inline(always)]
     fn drop(&mut self) {
         // SAFETY: as in `deref_mut`.
-        (self.pool.reset)(unsafe { self.item.as_mut() });
-        let (at, item) = (self.at, self.item.cast());
+        let Item { item, at } = unsafe { self.item.as_mut() };
+        (self.pool.reset)(item);
+        let (at, item) = (*at, self.item.cast());
         // SAFETY: the guard has the place, and ends here.
         unsafe { self.pool.places.give_back(Held { at, item }) };
     }

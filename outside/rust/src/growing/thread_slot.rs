@@ -9,8 +9,12 @@ use std::iter;
 const KEPT: usize = 7;
 /// How many places a thread pulls at one page, if others return them, and how far it goes then: the
 /// words of pages so far apart lie on cache lines of their own.
-const TOGETHER: usize = 4;
+const TOGETHER: usize = 8;
 const APART: usize = 17;
+/// After so many moves to a page a thread only pulls, if it returned none between but what it keeps.
+const MOVES: u8 = 128;
+/// After so many returns a thread only returns, if it made no such move between.
+const RETURNS: u16 = 1_024;
 
 /// What a thread has of a pool.
 pub(super) struct ThreadSlot {
@@ -18,6 +22,9 @@ pub(super) struct ThreadSlot {
     /// The places that it keeps beside its last one.
     kept: [Cell<Option<Held>>; KEPT],
     count: Cell<usize>,
+    /// How often it moved to a page since its last return, and returned since its last move.
+    moves: Cell<u8>,
+    returns: Cell<u16>,
     pub(super) way: RefCell<Way>,
 }
 
@@ -37,8 +44,10 @@ pub(super) struct Way {
     pub(super) page: usize,
     /// How many more places it pulls at this page.
     left: usize,
-    /// Its handles of the parts, by their numbers, if it has some of its own.
-    handles: Option<Vec<Option<Handle>>>,
+    /// Its handles of the parts, by their numbers.
+    handles: Vec<Option<Handle>>,
+    /// Whether it opens handles of its own.
+    opens: bool,
     /// An empty handle.
     none: Option<Handle>,
 }
@@ -50,7 +59,9 @@ impl ThreadSlot {
             last: Cell::new(Last::Unused),
             kept: [const { Cell::new(None) }; KEPT],
             count: Cell::new(0),
-            way: RefCell::new(Way::new(Some(Vec::new()))),
+            moves: Cell::new(0),
+            returns: Cell::new(0),
+            way: RefCell::new(Way::new(true)),
         }
     }
 
@@ -65,6 +76,7 @@ impl ThreadSlot {
     }
 
     /// Keeps a place as the last one, and the one before beside it, if there is one and room.
+    #[inline(always)]
     pub(super) fn keep(&self, held: Held) -> bool {
         let (Last::Kept(before), count) = (self.last.get(), self.count.get()) else {
             return false;
@@ -89,69 +101,121 @@ impl ThreadSlot {
     }
 
     /// Takes the place that was kept last beside it.
+    #[inline(always)]
     pub(super) fn take_kept(&self) -> Option<Held> {
         let count = self.count.get().checked_sub(1)?;
         self.count.set(count);
         self.kept[count].take()
     }
 
-    /// Takes so many places, those that were kept first, or all that there are.
-    pub(super) fn spill(&self, count: usize) -> impl Iterator<Item = Held> {
-        let (kept, count) = (self.kept.each_ref(), count.min(self.count.get()));
-        let kept = kept.map(Cell::take);
-        for (room, held) in self.kept.iter().zip(&kept[count..]) {
-            room.set(*held);
+    /// Whether a place may be kept beside the last one.
+    #[inline(always)]
+    pub(super) fn has_room(&self) -> bool {
+        self.count.get() < KEPT
+    }
+
+    /// Keeps a place beside the last one, if there is room. An `init` may have taken it meanwhile.
+    #[inline(always)]
+    pub(super) fn keep_beside(&self, held: Held) -> bool {
+        let count = self.count.get();
+        let room = self.kept.get(count);
+        if let Some(room) = room {
+            room.set(Some(held));
+            self.count.set(count + 1);
         }
-        self.count.set(self.count.get() - count);
-        kept.into_iter().take(count).flatten()
+        room.is_some()
+    }
+
+    /// Whether the thread only pulls places.
+    #[inline(always)]
+    pub(super) fn only_pulls(&self) -> bool {
+        self.moves.get() >= MOVES
+    }
+
+    /// Counts a move to a page.
+    #[inline(always)]
+    pub(super) fn count_move(&self) {
+        self.moves.set(self.moves.get().saturating_add(1));
+        self.returns.set(0);
+    }
+
+    /// Counts the return of a place that isn't kept. Tells whether the thread only returns places.
+    #[inline(always)]
+    pub(super) fn count_return(&self) -> bool {
+        let returns = self.returns.get().saturating_add(1);
+        self.returns.set(returns);
+        self.moves.set(0);
+        returns >= RETURNS
+    }
+
+    /// Whether the thread's end returns what it keeps here.
+    #[inline(always)]
+    pub(super) fn is_noted(&self) -> bool {
+        !matches!(self.last.get(), Last::Unused)
     }
 }
 
 impl Way {
-    fn new(handles: Option<Vec<Option<Handle>>>) -> Way {
+    fn new(opens: bool) -> Way {
         Way {
             part: None,
             page: 0,
             left: TOGETHER,
-            handles,
+            handles: Vec::new(),
+            opens,
             none: None,
         }
     }
 
     /// Creates the way of a thread that has no number. It opens no handle.
     pub(super) fn without_handles() -> Way {
-        Way::new(None)
+        Way::new(false)
     }
 
-    /// Finds where the next pull begins, after one of a place of this page.
-    pub(super) fn go_on(&mut self, page: usize, pages: usize) {
-        if page == self.page && self.left > 1 {
-            self.left -= 1;
-        } else {
+    /// Finds where the next pull begins, after one of a place of this page. The pages are as many as
+    /// a power of two, or none. Tells whether it moves.
+    #[inline(always)]
+    pub(super) fn go_on(&mut self, page: usize, pages: usize) -> bool {
+        let moves = page != self.page || self.left <= 1;
+        if moves {
             self.left = TOGETHER;
-            self.page = (page + APART) % pages;
+            self.page = (page + APART) & pages.saturating_sub(1);
+        } else {
+            self.left -= 1;
         }
+        moves
+    }
+
+    /// Returns at which number the handle of a part lies.
+    #[inline(always)]
+    fn number(name: PartName) -> usize {
+        name.number()
+    }
+
+    /// Returns its own handle of a part, if it has one.
+    #[inline(always)]
+    pub(super) fn own_handle(&mut self, name: PartName) -> Option<&mut Option<Handle>> {
+        let handle = self.handles.get_mut(Self::number(name))?;
+        handle.is_some().then_some(handle)
     }
 
     /// Returns the handle of a part, which is opened if it isn't. It is empty if memory is refused.
     pub(super) fn handle(&mut self, name: PartName, library: &Library) -> &mut Option<Handle> {
-        let Some(handles) = &mut self.handles else {
-            return &mut self.none;
-        };
-        let number = name.number();
-        if !matches!(handles.get(number), Some(Some(_))) {
-            open(handles, number, library);
+        let number = Self::number(name);
+        if self.own_handle(name).is_none() {
+            self.open(number, library);
         }
-        handles.get_mut(number).unwrap_or(&mut self.none)
+        self.handles.get_mut(number).unwrap_or(&mut self.none)
     }
-}
 
-/// Opens the handle of this number. It stays away or empty if memory is refused.
-#[cold]
-fn open(handles: &mut Vec<Option<Handle>>, number: usize, library: &Library) {
-    let missing = (number + 1).saturating_sub(handles.len());
-    if handles.try_reserve(missing).is_ok() {
-        handles.extend(iter::repeat_with(|| None).take(missing));
-        library.open(&mut handles[number]);
+    /// Opens the handle of this number. It stays away or empty if memory is refused.
+    #[cold]
+    fn open(&mut self, number: usize, library: &Library) {
+        let missing = (number + 1).saturating_sub(self.handles.len());
+        if self.opens && self.handles.try_reserve(missing).is_ok() {
+            self.handles
+                .extend(iter::repeat_with(|| None).take(missing));
+            library.open(&mut self.handles[number]);
+        }
     }
 }
