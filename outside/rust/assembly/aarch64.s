@@ -172,47 +172,47 @@ kdr_0_1_0_take_further:
 	mov	x12, x8
 .L0_1_0_take_further_1:
 	cmp	x12, x2
-	csel	x12, x11, x12, eq
+	csel	x13, x11, x12, eq
 	b.ne	.L0_1_0_take_further_2
 	cmp	x11, x9
 	b.hs	.L0_1_0_take_further_10
 .L0_1_0_take_further_2:
-	ldr	x13, [x1]
-	lsl	x15, x12, #3
-	add	x13, x13, x15
-	ldar	x16, [x13]
-	lsr	x14, x16, #32
+	ldr	x12, [x1]
+	lsl	x15, x13, #3
+	add	x12, x12, x15
+	ldar	x17, [x12]
+	lsr	x14, x17, #32
 	b	.L0_1_0_take_further_7
 .L0_1_0_take_further_3:
-	ldar	x17, [x4]
-	and	x5, x17, x3
+	ldar	x5, [x4]
+	and	x12, x5, x3
 .L0_1_0_take_further_4:
 	ldaxr	x6, [x4]
-	cmp	x6, x17
+	cmp	x6, x5
 	b.ne	.L0_1_0_take_further_5
-	stlxr	w6, x5, [x4]
+	stlxr	w6, x12, [x4]
 	cbz	w6, .L0_1_0_take_further_6
 	b	.L0_1_0_take_further_4
 .L0_1_0_take_further_5:
 	clrex
 	b	.L0_1_0_take_further_3
 .L0_1_0_take_further_6:
-	sub	w3, w16, #1
-	tst	x17, x18
-	and	w16, w3, w16
+	sub	w3, w17, #1
+	tst	x5, x18
+	and	w17, w3, w17
 	b.ne	.L0_1_0_take_further_48
 .L0_1_0_take_further_7:
-	cbz	w16, .L0_1_0_take_further_8
-	rbit	w13, w16
-	mov	w17, #1
-	clz	w13, w13
-	lsl	x18, x17, x13
-	ldr	x17, [x1]
+	cbz	w17, .L0_1_0_take_further_8
+	rbit	w12, w17
+	clz	w16, w12
+	mov	w12, #1
+	lsl	x18, x12, x16
+	ldr	x12, [x1]
 	mvn	x3, x18
-	add	x4, x17, x15
+	add	x4, x12, x15
 	b	.L0_1_0_take_further_3
 .L0_1_0_take_further_8:
-	add	x12, x12, #1
+	add	x12, x13, #1
 	add	w10, w10, w14
 	cmp	x12, x9
 	b.lo	.L0_1_0_take_further_1
@@ -226,47 +226,47 @@ kdr_0_1_0_take_further:
 	add	x9, x2, #1
 .L0_1_0_take_further_11:
 	cmp	x12, x2
-	csel	x12, x9, x12, eq
+	csel	x13, x9, x12, eq
 	b.ne	.L0_1_0_take_further_12
 	cmp	x9, x8
 	b.hs	.L0_1_0_take_further_19
 .L0_1_0_take_further_12:
-	ldr	x13, [x1]
-	lsl	x15, x12, #3
-	add	x13, x13, x15
-	ldar	x16, [x13]
-	lsr	x14, x16, #32
+	ldr	x12, [x1]
+	lsl	x15, x13, #3
+	add	x12, x12, x15
+	ldar	x17, [x12]
+	lsr	x14, x17, #32
 	b	.L0_1_0_take_further_17
 .L0_1_0_take_further_13:
-	ldar	x17, [x4]
-	and	x5, x17, x3
+	ldar	x5, [x4]
+	and	x12, x5, x3
 .L0_1_0_take_further_14:
 	ldaxr	x6, [x4]
-	cmp	x6, x17
+	cmp	x6, x5
 	b.ne	.L0_1_0_take_further_15
-	stlxr	w6, x5, [x4]
+	stlxr	w6, x12, [x4]
 	cbz	w6, .L0_1_0_take_further_16
 	b	.L0_1_0_take_further_14
 .L0_1_0_take_further_15:
 	clrex
 	b	.L0_1_0_take_further_13
 .L0_1_0_take_further_16:
-	sub	w3, w16, #1
-	tst	x17, x18
-	and	w16, w3, w16
+	sub	w3, w17, #1
+	tst	x5, x18
+	and	w17, w3, w17
 	b.ne	.L0_1_0_take_further_48
 .L0_1_0_take_further_17:
-	cbz	w16, .L0_1_0_take_further_18
-	rbit	w13, w16
-	mov	w17, #1
-	clz	w13, w13
-	lsl	x18, x17, x13
-	ldr	x17, [x1]
+	cbz	w17, .L0_1_0_take_further_18
+	rbit	w12, w17
+	clz	w16, w12
+	mov	w12, #1
+	lsl	x18, x12, x16
+	ldr	x12, [x1]
 	mvn	x3, x18
-	add	x4, x17, x15
+	add	x4, x12, x15
 	b	.L0_1_0_take_further_13
 .L0_1_0_take_further_18:
-	add	x12, x12, #1
+	add	x12, x13, #1
 	add	w11, w11, w14
 	cmp	x12, x8
 	b.lo	.L0_1_0_take_further_11
@@ -282,13 +282,13 @@ kdr_0_1_0_take_further:
 	mov	w14, w12
 	b	.L0_1_0_take_further_25
 .L0_1_0_take_further_21:
-	ldar	x15, [x18]
-	and	x3, x15, x17
+	ldar	x3, [x18]
+	and	x15, x3, x17
 .L0_1_0_take_further_22:
 	ldaxr	x4, [x18]
-	cmp	x4, x15
+	cmp	x4, x3
 	b.ne	.L0_1_0_take_further_23
-	stlxr	w4, x3, [x18]
+	stlxr	w4, x15, [x18]
 	cbz	w4, .L0_1_0_take_further_24
 	b	.L0_1_0_take_further_22
 .L0_1_0_take_further_23:
@@ -296,7 +296,7 @@ kdr_0_1_0_take_further:
 	b	.L0_1_0_take_further_21
 .L0_1_0_take_further_24:
 	sub	w17, w14, #1
-	tst	x15, x16
+	tst	x3, x16
 	and	w14, w17, w14
 	b.ne	.L0_1_0_take_further_50
 .L0_1_0_take_further_25:
@@ -312,114 +312,114 @@ kdr_0_1_0_take_further:
 .L0_1_0_take_further_26:
 	add	x13, x1, #88
 	ldar	x13, [x13]
-	ldr	x15, [x1, #72]
-	cmp	x13, x15
+	ldr	x16, [x1, #72]
+	cmp	x13, x16
 	csel	x14, x13, xzr, lo
-	cmp	x14, x15
+	cmp	x14, x16
 	b.hs	.L0_1_0_take_further_35
 	mov	w13, wzr
-	mov	x16, x14
+	mov	x15, x14
 .L0_1_0_take_further_27:
-	cmp	x16, x2
-	csel	x16, x10, x16, eq
+	cmp	x15, x2
+	csel	x17, x10, x15, eq
 	b.ne	.L0_1_0_take_further_28
-	cmp	x10, x15
+	cmp	x10, x16
 	b.hs	.L0_1_0_take_further_36
 .L0_1_0_take_further_28:
-	ldr	x17, [x1]
-	lsl	x3, x16, #3
-	add	x17, x17, x3
-	ldar	x4, [x17]
-	lsr	x18, x4, #32
+	ldr	x15, [x1]
+	lsl	x3, x17, #3
+	add	x15, x15, x3
+	ldar	x5, [x15]
+	lsr	x18, x5, #32
 	b	.L0_1_0_take_further_33
 .L0_1_0_take_further_29:
-	ldar	x5, [x19]
-	and	x20, x5, x7
+	ldar	x20, [x19]
+	and	x15, x20, x7
 .L0_1_0_take_further_30:
 	ldaxr	x21, [x19]
-	cmp	x21, x5
+	cmp	x21, x20
 	b.ne	.L0_1_0_take_further_31
-	stlxr	w21, x20, [x19]
+	stlxr	w21, x15, [x19]
 	cbz	w21, .L0_1_0_take_further_32
 	b	.L0_1_0_take_further_30
 .L0_1_0_take_further_31:
 	clrex
 	b	.L0_1_0_take_further_29
 .L0_1_0_take_further_32:
-	sub	w7, w4, #1
-	tst	x5, x6
-	and	w4, w7, w4
+	sub	w7, w5, #1
+	tst	x20, x6
+	and	w5, w7, w5
 	b.ne	.L0_1_0_take_further_51
 .L0_1_0_take_further_33:
-	cbz	w4, .L0_1_0_take_further_34
-	rbit	w17, w4
-	mov	w5, #1
-	clz	w17, w17
-	lsl	x6, x5, x17
-	ldr	x5, [x1]
+	cbz	w5, .L0_1_0_take_further_34
+	rbit	w15, w5
+	clz	w4, w15
+	mov	w15, #1
+	lsl	x6, x15, x4
+	ldr	x15, [x1]
 	mvn	x7, x6
-	add	x19, x5, x3
+	add	x19, x15, x3
 	b	.L0_1_0_take_further_29
 .L0_1_0_take_further_34:
-	add	x16, x16, #1
+	add	x15, x17, #1
 	add	w13, w13, w18
-	cmp	x16, x15
+	cmp	x15, x16
 	b.lo	.L0_1_0_take_further_27
 	b	.L0_1_0_take_further_36
 .L0_1_0_take_further_35:
 	mov	w13, wzr
 .L0_1_0_take_further_36:
-	mov	w15, wzr
+	mov	w16, wzr
 	cbz	x14, .L0_1_0_take_further_45
-	mov	x16, xzr
+	mov	x15, xzr
 .L0_1_0_take_further_37:
-	cmp	x16, x2
-	csel	x16, x10, x16, eq
+	cmp	x15, x2
+	csel	x17, x10, x15, eq
 	b.ne	.L0_1_0_take_further_38
 	cmp	x10, x14
 	b.hs	.L0_1_0_take_further_45
 .L0_1_0_take_further_38:
-	ldr	x17, [x1]
-	lsl	x3, x16, #3
-	add	x17, x17, x3
-	ldar	x4, [x17]
-	lsr	x18, x4, #32
+	ldr	x15, [x1]
+	lsl	x3, x17, #3
+	add	x15, x15, x3
+	ldar	x5, [x15]
+	lsr	x18, x5, #32
 	b	.L0_1_0_take_further_43
 .L0_1_0_take_further_39:
-	ldar	x5, [x19]
-	and	x20, x5, x7
+	ldar	x20, [x19]
+	and	x15, x20, x7
 .L0_1_0_take_further_40:
 	ldaxr	x21, [x19]
-	cmp	x21, x5
+	cmp	x21, x20
 	b.ne	.L0_1_0_take_further_41
-	stlxr	w21, x20, [x19]
+	stlxr	w21, x15, [x19]
 	cbz	w21, .L0_1_0_take_further_42
 	b	.L0_1_0_take_further_40
 .L0_1_0_take_further_41:
 	clrex
 	b	.L0_1_0_take_further_39
 .L0_1_0_take_further_42:
-	sub	w7, w4, #1
-	tst	x5, x6
-	and	w4, w7, w4
+	sub	w7, w5, #1
+	tst	x20, x6
+	and	w5, w7, w5
 	b.ne	.L0_1_0_take_further_51
 .L0_1_0_take_further_43:
-	cbz	w4, .L0_1_0_take_further_44
-	rbit	w17, w4
-	mov	w5, #1
-	clz	w17, w17
-	lsl	x6, x5, x17
-	ldr	x5, [x1]
+	cbz	w5, .L0_1_0_take_further_44
+	rbit	w15, w5
+	clz	w4, w15
+	mov	w15, #1
+	lsl	x6, x15, x4
+	ldr	x15, [x1]
 	mvn	x7, x6
-	add	x19, x5, x3
+	add	x19, x15, x3
 	b	.L0_1_0_take_further_39
 .L0_1_0_take_further_44:
-	add	x16, x16, #1
-	add	w15, w15, w18
-	cmp	x16, x14
+	add	x15, x17, #1
+	add	w16, w16, w18
+	cmp	x15, x14
 	b.lo	.L0_1_0_take_further_37
 .L0_1_0_take_further_45:
-	add	w13, w15, w13
+	add	w13, w16, w13
 	cbnz	w12, .L0_1_0_take_further_46
 	cmp	w13, w11
 	b.eq	.L0_1_0_take_further_47
@@ -435,67 +435,58 @@ kdr_0_1_0_take_further:
 	ldr	x21, [sp], #32
 	ret
 .L0_1_0_take_further_48:
-	lsl	x8, x12, #5
+	lsl	x8, x13, #5
+	ldr	x9, [x1, #8]
+	add	x9, x9, x8
+	ldrb	w10, [x9, x16]
+	strb	wzr, [x9, x16]
+	cmp	w10, #1
+	b.ne	.L0_1_0_take_further_53
+	orr	x8, x8, x16
+	add	x10, x1, #88
+	lsr	x11, x8, #5
+	ldar	x9, [x10]
+	cmp	x9, x11
+	mov	w9, w12
+	b.eq	.L0_1_0_take_further_49
+	stlr	x11, [x10]
+.L0_1_0_take_further_49:
+	mov	w10, #1
+	str	x10, [x0]
+	stp	x8, x9, [x0, #8]
+	ldp	x20, x19, [sp, #16]
+	ldr	x21, [sp], #32
+	ret
+.L0_1_0_take_further_50:
+	lsl	x8, x2, #5
 	ldr	x9, [x1, #8]
 	add	x9, x9, x8
 	ldrb	w10, [x9, x13]
 	strb	wzr, [x9, x13]
 	cmp	w10, #1
 	b.ne	.L0_1_0_take_further_53
-	mov	w9, #1
 	orr	x8, x8, x13
-	lsl	w9, w9, w13
-	add	x10, x1, #88
-	lsr	x11, x8, #5
-	ldar	x12, [x10]
-	bic	w9, w17, w9
-	cmp	x12, x11
-	mov	w9, w9
-	b.eq	.L0_1_0_take_further_49
-	stlr	x11, [x10]
-.L0_1_0_take_further_49:
-	mov	w10, #1
-	str	x9, [x0, #16]
-	stp	x10, x8, [x0]
-	ldp	x20, x19, [sp, #16]
-	ldr	x21, [sp], #32
-	ret
-.L0_1_0_take_further_50:
-	lsl	x9, x2, #5
-	ldr	x8, [x1, #8]
-	add	x8, x8, x9
-	ldrb	w10, [x8, x13]
-	strb	wzr, [x8, x13]
-	cmp	w10, #1
-	b.ne	.L0_1_0_take_further_53
-	mov	w8, #1
-	orr	x9, x9, x13
-	lsl	w8, w8, w13
-	bic	w8, w15, w8
 	b	.L0_1_0_take_further_52
 .L0_1_0_take_further_51:
-	lsl	x9, x16, #5
-	ldr	x8, [x1, #8]
-	add	x8, x8, x9
-	ldrb	w10, [x8, x17]
-	strb	wzr, [x8, x17]
+	lsl	x8, x17, #5
+	ldr	x9, [x1, #8]
+	add	x9, x9, x8
+	ldrb	w10, [x9, x4]
+	strb	wzr, [x9, x4]
 	cmp	w10, #1
 	b.ne	.L0_1_0_take_further_53
-	mov	w8, #1
-	orr	x9, x9, x17
-	add	x10, x1, #88
-	lsl	w8, w8, w17
-	lsr	x11, x9, #5
-	ldar	x12, [x10]
-	bic	w8, w5, w8
-	cmp	x12, x11
+	orr	x8, x8, x4
+	add	x9, x1, #88
+	lsr	x10, x8, #5
+	ldar	x11, [x9]
+	cmp	x11, x10
 	b.eq	.L0_1_0_take_further_52
-	stlr	x11, [x10]
+	stlr	x10, [x9]
 .L0_1_0_take_further_52:
-	mov	w10, #1
-	mov	w8, w8
-	stp	x10, x9, [x0]
-	str	x8, [x0, #16]
+	mov	w9, #1
+	str	x9, [x0]
+	mov	w9, w15
+	stp	x8, x9, [x0, #8]
 	ldp	x20, x19, [sp, #16]
 	ldr	x21, [sp], #32
 	ret

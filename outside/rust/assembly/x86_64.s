@@ -172,36 +172,36 @@ kdr_0_1_0_take_further:
 	orb	%al, %cl
 	je	.L0_1_0_take_further_5
 	movq	(%rsi), %rax
-	movq	(%rax,%r10,8), %r13
-	movq	%r13, %r12
-	shrq	$32, %r12
+	movq	(%rax,%r10,8), %rbp
+	movq	%rbp, %r13
+	shrq	$32, %r13
 	.byte 0x66, 0x66, 0x66, 0x66, 0x2e, 0x0f, 0x1f, 0x84, 0x00, 0x00, 0x00, 0x00, 0x00 # nopw %cs:(%rax,%rax)
 .L0_1_0_take_further_2:
-	testl	%r13d, %r13d
+	testl	%ebp, %ebp
 	je	.L0_1_0_take_further_4
-	tzcntl	%r13d, %ecx
-	movl	$1, %ebp
-	shlq	%cl, %rbp
-	movq	$-2, %r15
-	rolq	%cl, %r15
-	movq	(%rsi), %rdi
-	.byte 0x90 # nop
+	tzcntl	%ebp, %ecx
+	movl	$1, %r15d
+	shlq	%cl, %r15
+	movq	$-2, %rdi
+	rolq	%cl, %rdi
+	movq	(%rsi), %r9
+	.byte 0x66, 0x90 # nop
 .L0_1_0_take_further_3:
-	movq	(%rdi,%r10,8), %r9
-	movq	%r9, %r8
-	andq	%r15, %r8
-	movq	%r9, %rax
-	lock cmpxchgq	%r8, (%rdi,%r10,8)
+	movq	(%r9,%r10,8), %r8
+	movq	%r8, %r12
+	andq	%rdi, %r12
+	movq	%r8, %rax
+	lock cmpxchgq	%r12, (%r9,%r10,8)
 	jne	.L0_1_0_take_further_3
-	leal	-1(%r13), %eax
-	andl	%r13d, %eax
-	movl	%eax, %r13d
-	testq	%rbp, %r9
+	leal	-1(%rbp), %eax
+	andl	%ebp, %eax
+	movl	%eax, %ebp
+	testq	%r15, %r8
 	je	.L0_1_0_take_further_2
 	jmp	.L0_1_0_take_further_27
-	.byte 0x0f, 0x1f, 0x80, 0x00, 0x00, 0x00, 0x00 # nopl (%rax)
+	.byte 0x66, 0x2e, 0x0f, 0x1f, 0x84, 0x00, 0x00, 0x00, 0x00, 0x00 # nopw %cs:(%rax,%rax)
 .L0_1_0_take_further_4:
-	addl	%r12d, %ebx
+	addl	%r13d, %ebx
 	incq	%r10
 	cmpq	%r14, %r10
 	leaq	1(%rdx), %rdi
@@ -221,33 +221,34 @@ kdr_0_1_0_take_further:
 	orb	%al, %cl
 	je	.L0_1_0_take_further_10
 	movq	(%rsi), %rax
-	movq	(%rax,%r10,8), %r12
-	movq	%r12, %r15
+	movq	(%rax,%r10,8), %r13
+	movq	%r13, %r15
 	shrq	$32, %r15
 	.byte 0x66, 0x90 # nop
 .L0_1_0_take_further_7:
-	testl	%r12d, %r12d
+	testl	%r13d, %r13d
 	je	.L0_1_0_take_further_9
-	tzcntl	%r12d, %ecx
-	movl	$1, %r13d
-	shlq	%cl, %r13
-	movq	$-2, %rdi
-	rolq	%cl, %rdi
-	movq	(%rsi), %rbp
+	tzcntl	%r13d, %ecx
+	movl	$1, %edi
+	shlq	%cl, %rdi
+	movq	$-2, %rbp
+	rolq	%cl, %rbp
+	movq	(%rsi), %r9
+	.byte 0x90 # nop
 .L0_1_0_take_further_8:
-	movq	(%rbp,%r10,8), %r9
-	movq	%r9, %r8
-	andq	%rdi, %r8
-	movq	%r9, %rax
-	lock cmpxchgq	%r8, (%rbp,%r10,8)
+	movq	(%r9,%r10,8), %r8
+	movq	%r8, %r12
+	andq	%rbp, %r12
+	movq	%r8, %rax
+	lock cmpxchgq	%r12, (%r9,%r10,8)
 	jne	.L0_1_0_take_further_8
-	leal	-1(%r12), %eax
-	andl	%r12d, %eax
-	movl	%eax, %r12d
-	testq	%r13, %r9
+	leal	-1(%r13), %eax
+	andl	%r13d, %eax
+	movl	%eax, %r13d
+	testq	%rdi, %r8
 	je	.L0_1_0_take_further_7
 	jmp	.L0_1_0_take_further_27
-	.byte 0x0f, 0x1f, 0x40, 0x00 # nopl (%rax)
+	.byte 0x0f, 0x1f, 0x80, 0x00, 0x00, 0x00, 0x00 # nopl (%rax)
 .L0_1_0_take_further_9:
 	movq	-32(%rsp), %rax
 	addl	%r15d, %eax
@@ -258,150 +259,152 @@ kdr_0_1_0_take_further:
 .L0_1_0_take_further_10:
 	movq	-32(%rsp), %rdi
 	addl	%ebx, %edi
-	xorl	%r14d, %r14d
+	xorl	%ebx, %ebx
 .L0_1_0_take_further_11:
 	movl	%edi, %ebp
 	movq	(%rsi), %rax
-	movq	(%rax,%rdx,8), %r15
-	movl	%r15d, %r9d
-	.byte 0x90 # nop
+	movq	(%rax,%rdx,8), %r14
+	movl	%r14d, %r9d
+	.byte 0x66, 0x90 # nop
 .L0_1_0_take_further_12:
 	testl	%r9d, %r9d
 	je	.L0_1_0_take_further_14
 	tzcntl	%r9d, %ecx
-	movl	$1, %r10d
-	shlq	%cl, %r10
-	movq	$-2, %rdi
-	rolq	%cl, %rdi
+	movl	$1, %edi
+	shlq	%cl, %rdi
+	movq	$-2, %r10
+	rolq	%cl, %r10
 	movq	(%rsi), %r11
+	.byte 0x90 # nop
 .L0_1_0_take_further_13:
 	movq	(%r11,%rdx,8), %r8
-	movq	%r8, %rbx
-	andq	%rdi, %rbx
+	movq	%r8, %r12
+	andq	%r10, %r12
 	movq	%r8, %rax
-	lock cmpxchgq	%rbx, (%r11,%rdx,8)
+	lock cmpxchgq	%r12, (%r11,%rdx,8)
 	jne	.L0_1_0_take_further_13
 	leal	-1(%r9), %eax
 	andl	%r9d, %eax
 	movl	%eax, %r9d
-	testq	%r10, %r8
+	testq	%rdi, %r8
 	je	.L0_1_0_take_further_12
 	jmp	.L0_1_0_take_further_29
 .L0_1_0_take_further_14:
-	movq	%r15, -8(%rsp)
+	movq	%r14, -8(%rsp)
 	movl	%ebp, -12(%rsp)
-	movq	%r14, -32(%rsp)
+	movq	%rbx, -32(%rsp)
 	movq	88(%rsi), %r15
-	movq	72(%rsi), %r13
+	movq	72(%rsi), %rbx
 	xorl	%edi, %edi
-	cmpq	%r13, %r15
+	cmpq	%rbx, %r15
 	cmovaeq	%rdi, %r15
 	movl	$0, %ebp
-	cmpq	%r13, %r15
+	cmpq	%rbx, %r15
 	jae	.L0_1_0_take_further_19
 	xorl	%ebp, %ebp
-	movq	%r15, %r12
+	movq	%r15, %r13
 .L0_1_0_take_further_15:
 	leaq	1(%rdx), %r8
-	cmpq	%r13, %r8
+	cmpq	%rbx, %r8
 	setb	%al
-	cmpq	%rdx, %r12
+	cmpq	%rdx, %r13
 	setne	%cl
-	cmoveq	%r8, %r12
+	cmoveq	%r8, %r13
 	orb	%al, %cl
 	je	.L0_1_0_take_further_19
 	movq	(%rsi), %rax
-	movq	(%rax,%r12,8), %rbx
-	movq	%rbx, %r10
-	shrq	$32, %r10
+	movq	(%rax,%r13,8), %r10
+	movq	%r10, %r11
+	shrq	$32, %r11
 	.byte 0x66, 0x66, 0x66, 0x66, 0x66, 0x66, 0x2e, 0x0f, 0x1f, 0x84, 0x00, 0x00, 0x00, 0x00, 0x00 # nopw %cs:(%rax,%rax)
 .L0_1_0_take_further_16:
-	testl	%ebx, %ebx
+	testl	%r10d, %r10d
 	je	.L0_1_0_take_further_18
-	tzcntl	%ebx, %ecx
-	movl	$1, %r11d
-	shlq	%cl, %r11
-	movq	$-2, %rdi
-	rolq	%cl, %rdi
-	movq	(%rsi), %r14
-	.byte 0x66, 0x90 # nop
+	tzcntl	%r10d, %ecx
+	movl	$1, %edi
+	shlq	%cl, %rdi
+	movq	$-2, %r14
+	rolq	%cl, %r14
+	movq	(%rsi), %r9
+	.byte 0x90 # nop
 .L0_1_0_take_further_17:
-	movq	(%r14,%r12,8), %r8
-	movq	%r8, %r9
-	andq	%rdi, %r9
+	movq	(%r9,%r13,8), %r8
+	movq	%r8, %r12
+	andq	%r14, %r12
 	movq	%r8, %rax
-	lock cmpxchgq	%r9, (%r14,%r12,8)
+	lock cmpxchgq	%r12, (%r9,%r13,8)
 	jne	.L0_1_0_take_further_17
-	leal	-1(%rbx), %eax
-	andl	%ebx, %eax
-	movl	%eax, %ebx
-	testq	%r11, %r8
+	leal	-1(%r10), %eax
+	andl	%r10d, %eax
+	movl	%eax, %r10d
+	testq	%rdi, %r8
 	je	.L0_1_0_take_further_16
 	jmp	.L0_1_0_take_further_30
 .L0_1_0_take_further_18:
-	addl	%r10d, %ebp
-	incq	%r12
-	cmpq	%r13, %r12
+	addl	%r11d, %ebp
+	incq	%r13
+	cmpq	%rbx, %r13
 	movl	$0, %edi
 	jb	.L0_1_0_take_further_15
 .L0_1_0_take_further_19:
 	testq	%r15, %r15
 	je	.L0_1_0_take_further_24
 	xorl	%edi, %edi
-	xorl	%r12d, %r12d
+	xorl	%r13d, %r13d
 .L0_1_0_take_further_20:
 	leaq	1(%rdx), %r8
 	cmpq	%r15, %r8
 	setb	%al
-	cmpq	%rdx, %r12
+	cmpq	%rdx, %r13
 	setne	%cl
-	cmoveq	%r8, %r12
+	cmoveq	%r8, %r13
 	orb	%al, %cl
 	je	.L0_1_0_take_further_24
-	movq	%rdi, %r13
+	movq	%rdi, %r14
 	movq	(%rsi), %rax
-	movq	(%rax,%r12,8), %r10
-	movq	%r10, %rbx
-	shrq	$32, %rbx
-	.byte 0x66, 0x66, 0x66, 0x66, 0x66, 0x66, 0x2e, 0x0f, 0x1f, 0x84, 0x00, 0x00, 0x00, 0x00, 0x00 # nopw %cs:(%rax,%rax)
+	movq	(%rax,%r13,8), %r11
+	movq	%r11, %r10
+	shrq	$32, %r10
+	.byte 0x66, 0x66, 0x66, 0x2e, 0x0f, 0x1f, 0x84, 0x00, 0x00, 0x00, 0x00, 0x00 # nopw %cs:(%rax,%rax)
 .L0_1_0_take_further_21:
-	testl	%r10d, %r10d
+	testl	%r11d, %r11d
 	je	.L0_1_0_take_further_23
-	tzcntl	%r10d, %ecx
-	movl	$1, %r11d
-	shlq	%cl, %r11
-	movq	$-2, %rdi
-	rolq	%cl, %rdi
-	movq	(%rsi), %r14
+	tzcntl	%r11d, %ecx
+	movl	$1, %edi
+	shlq	%cl, %rdi
+	movq	$-2, %rbx
+	rolq	%cl, %rbx
+	movq	(%rsi), %r9
+	.byte 0x90 # nop
 .L0_1_0_take_further_22:
-	movq	(%r14,%r12,8), %r8
-	movq	%r8, %r9
-	andq	%rdi, %r9
+	movq	(%r9,%r13,8), %r8
+	movq	%r8, %r12
+	andq	%rbx, %r12
 	movq	%r8, %rax
-	lock cmpxchgq	%r9, (%r14,%r12,8)
+	lock cmpxchgq	%r12, (%r9,%r13,8)
 	jne	.L0_1_0_take_further_22
-	leal	-1(%r10), %eax
-	andl	%r10d, %eax
-	movl	%eax, %r10d
-	testq	%r11, %r8
+	leal	-1(%r11), %eax
+	andl	%r11d, %eax
+	movl	%eax, %r11d
+	testq	%rdi, %r8
 	je	.L0_1_0_take_further_21
 	jmp	.L0_1_0_take_further_30
 .L0_1_0_take_further_23:
-	movq	%r13, %rdi
-	addl	%ebx, %edi
-	incq	%r12
-	cmpq	%r15, %r12
+	movq	%r14, %rdi
+	addl	%r10d, %edi
+	incq	%r13
+	cmpq	%r15, %r13
 	jb	.L0_1_0_take_further_20
 .L0_1_0_take_further_24:
 	addl	%ebp, %edi
 	cmpl	$0, -8(%rsp)
-	movq	-32(%rsp), %r14
+	movq	-32(%rsp), %rbx
 	jne	.L0_1_0_take_further_25
 	cmpl	-12(%rsp), %edi
 	je	.L0_1_0_take_further_26
 .L0_1_0_take_further_25:
-	incq	%r14
-	cmpq	$-1, %r14
+	incq	%rbx
+	cmpq	$-1, %rbx
 	jne	.L0_1_0_take_further_11
 .L0_1_0_take_further_26:
 	xorps	%xmm0, %xmm0
@@ -417,9 +420,8 @@ kdr_0_1_0_take_further:
 	movb	$0, (%rcx,%rax)
 	cmpb	$1, %dl
 	jne	.L0_1_0_take_further_34
-	btrl	%ecx, %r9d
 	orq	%rcx, %r10
-	movl	%r9d, %eax
+	movl	%r12d, %eax
 	movq	%r10, %rcx
 	shrq	$5, %rcx
 	movq	88(%rsi), %rdx
@@ -439,28 +441,26 @@ kdr_0_1_0_take_further:
 	movb	$0, (%rcx,%rax)
 	cmpb	$1, %sil
 	jne	.L0_1_0_take_further_34
-	btrl	%ecx, %r8d
 	orq	%rcx, %rdx
 	jmp	.L0_1_0_take_further_31
 .L0_1_0_take_further_30:
-	shlq	$5, %r12
+	shlq	$5, %r13
 	movq	8(%rsi), %rax
-	addq	%r12, %rax
+	addq	%r13, %rax
 	movzbl	(%rcx,%rax), %edx
 	movb	$0, (%rcx,%rax)
 	cmpb	$1, %dl
 	jne	.L0_1_0_take_further_34
-	btrl	%ecx, %r8d
-	orq	%rcx, %r12
-	movq	%r12, %rdx
-	movq	%r12, %rax
+	orq	%rcx, %r13
+	movq	%r13, %rdx
+	movq	%r13, %rax
 	shrq	$5, %rax
 	movq	88(%rsi), %rcx
 	cmpq	%rax, %rcx
 	je	.L0_1_0_take_further_31
 	xchgq	%rax, 88(%rsi)
 .L0_1_0_take_further_31:
-	movl	%r8d, %eax
+	movl	%r12d, %eax
 	movq	-24(%rsp), %rcx
 	movq	$1, (%rcx)
 	movq	%rdx, 8(%rcx)
