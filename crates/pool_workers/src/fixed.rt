@@ -55,6 +55,7 @@ impl<'p, T: Drop, I: Init<T, K>, R: Reset<T, K>, K: Clean<T>> FixedHeld<'p, T, I
 
 impl<'p, T: Drop, I: Init<T, K>, R: Reset<T, K>, K: Clean<T>> WorkerPlace<T>
     for Near<'p, T, I, R, K> {
+    ghost use Rattle.fixed_pools.specs.FixedPool.{fixed_view};
     ghost use Rattle.pool_parts.specs.Answers.{IsMadeOrReset};
     ghost use Rattle.pool_workers.specs.Workers.{IsPulledFromFixed};
 
@@ -63,6 +64,8 @@ impl<'p, T: Drop, I: Init<T, K>, R: Reset<T, K>, K: Clean<T>> WorkerPlace<T>
     ghost is_pulled = { IsPulledFromFixed K.meets I.answers R.leaves };
 
     ghost keeps = { λ value. K.meets value × IsMadeOrReset I.answers R.leaves value };
+
+    ghost leaves = { λ held. R.leaves (fixed_view held.pool).reset };
 
     ghost refuses = { λ _ error. error ≡ Limit };
 

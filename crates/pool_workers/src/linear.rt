@@ -80,6 +80,8 @@ impl<'p, T: Drop, I: Init<T, K>, R: Reset<T, K>, K: Clean<T>> WorkerPlace<T>
 
     ghost keeps = { λ value. K.meets value × IsMadeOrReset I.answers R.leaves value };
 
+    ghost leaves = { λ chain. R.leaves (linear_view chain.held.pool).reset };
+
     ghost refuses = { λ pool.
         Refuses ⊤ (I.answers (linear_view pool.now).init None)
         (IsSome (linear_view pool.now).limit) };

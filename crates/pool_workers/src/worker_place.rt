@@ -1,5 +1,5 @@
 //! Where a worker pulls.
-ghost use Rattle.std.specs.Prelude.{IfOk, IfErr, IfSome};
+ghost use Rattle.std.specs.Prelude.{◌≡◌, IfOk, IfErr, IfSome};
 ghost use Rattle.pool_parts.specs.declared.pull_error.PullError.{PullError};
 
 use pool_parts::PullError;
@@ -17,6 +17,9 @@ pub trait WorkerPlace<T>: Drop {
     /// it or `reset` leave it.
     ghost keeps: { T → Type 0 };
 
+    /// The pool's reset may leave a value in place of another.
+    ghost leaves: { Self.Held → T → T → Type 0 };
+
     /// The pool may refuse a pull with this.
     ghost refuses: { Self → PullError → Type 0 };
 
@@ -29,8 +32,8 @@ pub trait WorkerPlace<T>: Drop {
     /// Resets the value of an item, which stays in use. If the reset rejects the value, the item's
     /// place is returned empty.
     fn reset(held: Self::Held, value: T) -> Option<(Self::Held, T)>
-        requires { is_pulled held }
-        ensures pulled { IfSome result (λ left. is_pulled left.0) }
+        ensures same_item { IfSome result (λ left. left.0 ≡ held) }
+        ensures by_reset { IfSome result (λ left. leaves held value left.1) }
         ensures keeps { IfSome result (λ left. keeps left.1) };
 
     /// Returns an item with a value as the pool keeps it. No reset runs.
