@@ -9,6 +9,7 @@ use std::alloc::{handle_alloc_error, Layout};
 use std::fmt::{self, Debug, Formatter};
 use std::iter;
 use std::mem;
+use std::num::NonZeroUsize;
 use std::ops::{Deref, DerefMut};
 use std::ptr::NonNull;
 use std::sync::Arc;
@@ -21,10 +22,11 @@ pub type LinearOwnedReusable<T> = LinearGuard<Arc<LinearObjectPool<T>>, T>;
 /// What lies at the places of each part of a shard.
 type Parts<T> = [OnceBox<Slots<Option<Item<T>>>>; PARTS];
 
-/// An item, and the place where it lies. So a guard has one word for both, and is sent with less.
+/// An item, and one more than the place where it lies: a slot without an item needs no word more. So
+/// a guard has one word for both, and is sent with less.
 struct Item<T> {
     item: T,
-    at: usize,
+    after: NonZeroUsize,
 }
 
 /// A pool whose pulls are never refused.
@@ -102,7 +104,8 @@ impl<T> LinearObjectPool<T> {
         let empty = AtEnd(at, |at| unsafe { self.places.give_back_unkept(*at) });
         let item = (self.init)();
         mem::forget(empty);
-        NonNull::from(value.insert(Item { item, at }))
+        let after = NonZeroUsize::MIN.saturating_add(at);
+        NonNull::from(value.insert(Item { item, after }))
     }
 
     /// Pulls a place of any part. One is made if there is none.
@@ -213,9 +216,9 @@ impl<P: Deref<Target = LinearObjectPool<T>>, T> Drop for LinearGuard<P, T> {
     #[inline(always)]
     fn drop(&mut self) {
         // SAFETY: as in `deref_mut`.
-        let Item { item, at } = unsafe { self.item.as_mut() };
+        let Item { item, after } = unsafe { self.item.as_mut() };
         (self.pool.reset)(item);
-        let (at, item) = (*at, self.item.cast());
+        let (at, item) = (after.get() - 1, self.item.cast());
         // SAFETY: the guard has the place, and ends here.
         unsafe { self.pool.places.give_back(Held { at, item }) };
     }
