@@ -68,3 +68,36 @@ pub fn growing(alloc: Global, tally: &Arc<Tally>) -> Result<Linear, PullError> {
     let (init, reset) = parts_of(tally)?;
     LinearObjectPool::new(alloc, init, reset)
 }
+
+/// A pool at which a worker has company.
+pub trait Shared {
+    /// Returns the call that made the item that another user pulls and drops, if one is free.
+    fn next(&self) -> Option<usize>;
+
+    /// Returns how many items are in use, if the pool counts them.
+    fn used(&self) -> Option<usize> {
+        None
+    }
+}
+
+impl Shared for Fixed {
+    fn next(&self) -> Option<usize> {
+        Some(self.pull().ok()?.number)
+    }
+}
+
+impl Shared for Lazy {
+    fn next(&self) -> Option<usize> {
+        Some(self.pull().ok()?.number)
+    }
+
+    fn used(&self) -> Option<usize> {
+        Some(self.in_use())
+    }
+}
+
+impl Shared for Linear {
+    fn next(&self) -> Option<usize> {
+        Some(self.pull().ok()?.number)
+    }
+}

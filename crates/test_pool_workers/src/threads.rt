@@ -1,6 +1,6 @@
 //! Workers that go to a thread, with the item that they keep.
 use crate::assert_equal::assert_equal;
-use crate::pools::{Counting, fixed_of, lazy_of};
+use crate::pools::{Counting, Fixed, Lazy, Shared, fixed_of, lazy_of};
 use fixed_pools::near::Near as FixedNear;
 use lazy_pools::near::Near as LazyNear;
 use pool_workers::Worker;
@@ -44,20 +44,26 @@ fn pull_elsewhere<R: Threads>(
     thread::join(rt, || end_fixed(fixed), || end_lazy(lazy))
 }
 
+/// Pulls by a worker of each pool, here and then elsewhere, where they end.
+fn pull_here_and_there<R: Threads>(
+    rt: &R,
+    fixed: &Fixed,
+    lazy: &Lazy,
+) -> [(Option<usize>, Option<usize>); 2] {
+    let (one, other) = (Worker::new(fixed.near()), Worker::new(lazy.near()));
+    let here = (pull_fixed(&one), pull_lazy(&other));
+    [here, pull_elsewhere(rt, one, other)]
+}
+
 #[test]
 fn a_worker_goes_to_a_thread_with_the_item_that_it_keeps(rt: HostRuntime) {
     let tally = new_tally(rt.alloc()).expect(&rt, "memory is left");
     let fixed = fixed_of(rt.alloc(), &tally, 1).expect(&rt, "a pool is made");
     let lazy = lazy_of(rt.alloc(), &tally, 1).expect(&rt, "a pool is made");
-    let (one, other) = (Worker::new(fixed.near()), Worker::new(lazy.near()));
-    assert_equal(
-        &rt,
-        (pull_fixed(&one), pull_lazy(&other)),
-        (Some(0), Some(1)),
-    );
-    assert_equal(&rt, pull_elsewhere(&rt, one, other), (Some(0), Some(1)));
+    let pulled = pull_here_and_there(&rt, &fixed, &lazy);
+    assert_equal(&rt, pulled, [(Some(0), Some(1)), (Some(0), Some(1))]);
     assert_equal(&rt, (tally.resets(), lazy.in_use()), (4, 0));
-    assert_equal(&rt, fixed.pull().is_ok(), true);
+    assert_equal(&rt, fixed.next(), Some(0));
     drop(fixed);
     drop(lazy);
     assert_equal(&rt, tally.now(), (2, 2));
