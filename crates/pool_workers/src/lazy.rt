@@ -63,6 +63,8 @@ impl<'p, T: Drop, I: Init<T, K>, R: Reset<T, K>, K: Clean<T>> WorkerPlace<T>
 
     ghost leaves = { λ held. R.leaves held.pool.reset };
 
+    ghost rejects = { λ held. R.rejects held.pool.reset };
+
     ghost refuses = { λ place. RefusesOrClosed ⊥ (I.answers (lazy_view place.pool.now).init None) ⊤ };
 
     #[inline(always)]

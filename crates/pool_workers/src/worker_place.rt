@@ -1,5 +1,5 @@
 //! Where a worker pulls.
-ghost use Rattle.std.specs.Prelude.{◌≡◌, IfOk, IfErr, IfSome};
+ghost use Rattle.std.specs.Prelude.{◌≡◌, IfOk, IfErr, IfSome, IsNone};
 ghost use Rattle.pool_parts.specs.declared.pull_error.PullError.{PullError};
 
 use pool_parts::PullError;
@@ -17,8 +17,11 @@ pub trait WorkerPlace<T>: Drop {
     /// it or `reset` leave it.
     ghost keeps: { T → Type 0 };
 
-    /// The pool's reset may leave a value in place of another.
+    /// The reset of the item's pool may leave the second value in place of the first.
     ghost leaves: { Self.Held → T → T → Type 0 };
+
+    /// The reset of the item's pool may reject the value. By default it rejects none.
+    ghost rejects: { Self.Held → T → Type 0 } = { λ _ _. ⊥ };
 
     /// The pool may refuse a pull with this.
     ghost refuses: { Self → PullError → Type 0 };
@@ -34,7 +37,8 @@ pub trait WorkerPlace<T>: Drop {
     fn reset(held: Self::Held, value: T) -> Option<(Self::Held, T)>
         ensures same_item { IfSome result (λ left. left.0 ≡ held) }
         ensures by_reset { IfSome result (λ left. leaves held value left.1) }
-        ensures keeps { IfSome result (λ left. keeps left.1) };
+        ensures keeps { IfSome result (λ left. keeps left.1) }
+        ensures rejected { IsNone result → rejects held value };
 
     /// Returns an item with a value as the pool keeps it. No reset runs.
     fn give_back(held: Self::Held, value: T)
