@@ -294,8 +294,12 @@ impl<T: Drop, I: Init<T, K>, R: Reset<T, K>, K: Clean<T>> LazyObjectPool<T, I, R
         ensures known { IfOk result (λ item. item.known ≡ view_of pulled.holding.seat) }
         ensures refused { IfErr result (Refuses ⊥ (I.answers (lazy_view self.now).init None) ⊥) }
     {
-        let item = self.item(pulled)?;
-        Ok(LazyReusableOf::new(pool, item))
+        let PulledItem { holding, value } = self.item(pulled)?;
+        Ok(LazyReusableOf {
+            pool,
+            holding,
+            value,
+        })
     }
 
     /// Returns the item of a place that was taken, and makes its value if the place is empty.

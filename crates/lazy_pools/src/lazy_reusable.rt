@@ -5,7 +5,6 @@ ghost use Rattle.pool_parts.specs.Page.{held_item, view_of, IsReturned};
 
 use crate::lazy_object_pool::LazyObjectPool;
 use fixed_pools::fixed_object_pool::PoolNote;
-use fixed_pools::fixed_object_pool::items::PulledItem;
 use pool_parts::clean::{AnyValue, Clean};
 use pool_parts::closures::{Init, Reset};
 use pool_parts::page::inside::Holding;
@@ -75,9 +74,9 @@ impl<T: Drop, I: Init<T, K>, R: Reset<T, K>, K: Clean<T>> SharedLazyPool<T>
 /// In a clause it is the pool, the item (its place, with the value), the value, and what its user
 /// knows.
 pub struct LazyReusableOf<T: Drop, P: SharedLazyPool<T>> {
-    pool: P,
-    holding: Holding<Option<T>>,
-    value: T,
+    pub(crate) pool: P,
+    pub(crate) holding: Holding<Option<T>>,
+    pub(crate) value: T,
 }
 
 impl<T: Drop, P: SharedLazyPool<T>> Model for LazyReusableOf<T, P> {
@@ -118,22 +117,6 @@ impl<T: Drop, P: SharedLazyPool<T>> LazyReusableOf<T, P> {
     ghost use Rattle.lazy_pools.specs.LazyPool.{IsBroughtBack};
     ghost use Rattle.pool_parts.specs.Page.{held_item, view_of};
     ghost use Rattle.pool_parts.specs.declared.page.word.TheConstants.{PAGE_ITEMS};
-
-    pub(crate) fn new(pool: P, item: PulledItem<Option<T>, T>) -> LazyReusableOf<T, P>
-        requires of_pool { item.holding.seat.table_id ≡ (P.shown pool).identity }
-        requires in_pool { item.holding.number < (P.shown pool).identity.slots }
-        ensures pool { result.pool ≡ pool }
-        ensures place { result.item ≡ held_item item.holding (Some item.value) }
-        ensures value { result.value ≡ item.value }
-        ensures view { result.known ≡ view_of item.holding.seat }
-    {
-        let PulledItem { holding, value } = item;
-        LazyReusableOf {
-            pool,
-            holding,
-            value,
-        }
-    }
 
     /// Returns the number of the item in its pool, counted from 0.
     pub fn number(&self) -> usize

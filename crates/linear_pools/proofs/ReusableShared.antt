@@ -16,8 +16,7 @@ use Rattle.linear_pools.specs.contracts.linear_owned_reusable.LinearOwnedReusabl
 use Rattle.linear_pools.specs.contracts.linear_owned_reusable.LinearOwnedReusable.TheInside as OwnedInside
 use Rattle.linear_pools.proofs.linear_object_pool.LinearObjectPool.TheSendSync as pool
 use Rattle.page_chain.proofs.NumberShared.{number_sync}
-use Rattle.pool_parts.proofs.page.shared_page.Page.TheSendSync as page
-use Rattle.pool_parts.proofs.SlotShared.{holding_sync}
+use Rattle.pool_parts.proofs.SlotShared.{holding_sync, slot_sync}
 
 module _ (T I R K : RattleType) (answers : Init.Ghosts I.Denot T.Denot K.Denot)
     (leaves : Reset.Ghosts R.Denot T.Denot K.Denot) (clean : Ghosts K.Denot T.Denot) where
@@ -26,20 +25,14 @@ module _ (T I R K : RattleType) (answers : Init.Ghosts I.Denot T.Denot K.Denot)
   reusable_sync κ sent shared init reset =
       let type = Inside.the_type κ T I R K answers leaves clean in
       let pool_shared = shr_sync _ _ _ (pool.the_sync T I R K answers leaves clean sent init reset) in
-      let page_shared = shr_sync _ _ _ (page.the_sync T (MadeOrReset.the_row I R K) _ sent) in
+      let slot_shared = slot_sync T (MadeOrReset.the_row I R K) _ κ sent shared in
       view_sync (Inside.the_row κ T I R K answers leaves clean) _ _ _ _ (record {
         shared = λ reusable.
             (struct_sync (shape type) (
               pool_shared,
               (
-                page_shared,
-                (
-                  holding_sync T sent,
-                  (
-                    number_sync T (MadeOrReset.the_row I R K) (AnswerOf.the_row I K) _ _,
-                    (record { shared = shared.shared }, tt),
-                  ),
-                ),
+                record { shared = slot_shared.shared },
+                (number_sync T (MadeOrReset.the_row I R K) (AnswerOf.the_row I K) _ _, tt),
               ),
             )).shared (type.to reusable);
       })

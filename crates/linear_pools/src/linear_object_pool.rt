@@ -111,8 +111,8 @@ impl<T: Drop, I: Init<T, K>, R: Reset<T, K>, K: Clean<T>> LinearObjectPool<T, I,
     ghost use Rattle.linear_pools.specs.LinearPool.{linear_view, Pulls};
     ghost use Rattle.pool_parts.specs.Item.{IsPageItem, IsPulled};
     ghost use Rattle.pool_parts.specs.Slot.{IsFullPage};
-    ghost use Rattle.pool_parts.specs.Page.{page_view, view_of};
-    ghost use Rattle.page_chain.specs.Walk.{IsRefusedBy, page_of_item};
+    ghost use Rattle.pool_parts.specs.Page.{view_of};
+    ghost use Rattle.page_chain.specs.Walk.{IsRefusedBy};
 
     /// Creates a pool of one page, which grows by a page if each is full.
     ///
@@ -215,14 +215,17 @@ impl<T: Drop, I: Init<T, K>, R: Reset<T, K>, K: Clean<T>> LinearObjectPool<T, I,
     {
         let pass = PullPass::new();
         match self.chain.take_first(&pass) {
-            Allocated::Slot(slot) => {
-                let number = self.chain.first_number();
-                Ok(LinearReusable::new(self, self.chain.first_items(), slot, number))
-            }
+            Allocated::Slot(slot) => Ok(LinearReusable {
+                pool: self,
+                slot,
+                number: self.chain.first_number(),
+            }),
             Allocated::Full(seen) => match self.pull_further(seen) {
-                Ok(WalkEnd { slot, page, number }) => Ok(LinearReusable::new(
-                    self, page, slot, number,
-                )),
+                Ok(WalkEnd { slot, number, .. }) => Ok(LinearReusable {
+                    pool: self,
+                    slot,
+                    number,
+                }),
                 Err(refusal) => Err(refusal.cause()),
             },
         }
@@ -245,14 +248,17 @@ impl<T: Drop, I: Init<T, K>, R: Reset<T, K>, K: Clean<T>> LinearObjectPool<T, I,
             (linear_view self.now).limit (I.answers (linear_view self.now).init None)) }
     {
         match self.chain.take_first(pass) {
-            Allocated::Slot(slot) => {
-                let number = self.chain.first_number();
-                Ok(LinearReusable::new(self, self.chain.first_items(), slot, number))
-            }
+            Allocated::Slot(slot) => Ok(LinearReusable {
+                pool: self,
+                slot,
+                number: self.chain.first_number(),
+            }),
             Allocated::Full(seen) => match self.pull_further(seen) {
-                Ok(WalkEnd { slot, page, number }) => Ok(LinearReusable::new(
-                    self, page, slot, number,
-                )),
+                Ok(WalkEnd { slot, number, .. }) => Ok(LinearReusable {
+                    pool: self,
+                    slot,
+                    number,
+                }),
                 Err(refusal) => Err(refusal),
             },
         }
@@ -286,14 +292,17 @@ impl<T: Drop, I: Init<T, K>, R: Reset<T, K>, K: Clean<T>> LinearObjectPool<T, I,
             (linear_view self.now).limit (I.answers (linear_view self.now).init None)) }
     {
         match self.chain.take_first_from(pass, note) {
-            Allocated::Slot(slot) => {
-                let number = self.chain.first_number();
-                Ok(LinearReusable::new(self, self.chain.first_items(), slot, number))
-            }
+            Allocated::Slot(slot) => Ok(LinearReusable {
+                pool: self,
+                slot,
+                number: self.chain.first_number(),
+            }),
             Allocated::Full(seen) => match self.pull_further(seen) {
-                Ok(WalkEnd { slot, page, number }) => Ok(LinearReusable::new(
-                    self, page, slot, number,
-                )),
+                Ok(WalkEnd { slot, number, .. }) => Ok(LinearReusable {
+                    pool: self,
+                    slot,
+                    number,
+                }),
                 Err(refusal) => Err(refusal),
             },
         }
@@ -361,8 +370,8 @@ impl<T: Drop, I: Init<T, K>, R: Reset<T, K>, K: Clean<T>> LinearObjectPool<T, I,
         requires { IsFullPage (linear_view self.now).start.page.identity seen }
         ensures pulled { IfOk result (λ reached.
             Pulls K.meets I.answers R.leaves self.now reached.number reached.slot.item) }
-        ensures page { IfOk result (λ reached.
-            page_of_item reached.slot.item ≡ page_view (arc_value reached.page.now)) }
+        ensures opening { IfOk result (λ reached.
+            reached.slot.opening ≡ reached.slot.item.opening) }
         ensures past_first { IfOk result (λ reached. 0 < reached.number.number) }
         ensures refused { IfErr result (IsRefusedBy (linear_view self.now).start
             (linear_view self.now).limit (I.answers (linear_view self.now).init None)) }

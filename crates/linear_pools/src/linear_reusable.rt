@@ -7,7 +7,6 @@ use page_chain::linear_page::PageNumber;
 use pool_parts::clean::{AnyValue, Clean};
 use pool_parts::closures::{Init, Reset};
 use pool_parts::made_or_reset::MadeOrReset;
-use pool_parts::page::inside::Holding;
 use pool_parts::page::{Page, PageId, PageNote, PageSlot, Returned, Witness};
 use std::fmt::{self, Debug, Formatter, Write};
 use std::marker::Model;
@@ -26,19 +25,15 @@ use std::ops::{Deref, DerefMut};
 /// drop(item); // the value is 0 again, and in the pool
 /// ```
 pub struct LinearReusable<'p, T: Drop, I: Init<T, K>, R: Reset<T, K>, K: Clean<T> = AnyValue> {
-    pool: &'p LinearObjectPool<T, I, R, K>,
-    page: &'p Page<T, MadeOrReset<I, R, K>>,
-    holding: Holding<T>,
-    number: PageNumber<T, MadeOrReset<I, R, K>, AnswerOf<I, K>>,
-    value: T,
+    pub(crate) pool: &'p LinearObjectPool<T, I, R, K>,
+    pub(crate) slot: PageSlot<'p, T, MadeOrReset<I, R, K>>,
+    /// The number of the slot's page, with what the pull learned of the link to it.
+    pub(crate) number: PageNumber<T, MadeOrReset<I, R, K>, AnswerOf<I, K>>,
 }
 
 impl<'p, T: Drop, I: Init<T, K>, R: Reset<T, K>, K: Clean<T>> Model
     for LinearReusable<'p, T, I, R, K> {
-    ghost use Rattle.std.specs.Prelude.{◌≡◌, ◌<◌};
-    ghost use Rattle.pool_parts.specs.Page.{page_identity, page_opening, held_item};
     ghost use Rattle.pool_parts.specs.declared.made_or_reset.MadeOrReset.{MadeOrReset};
-    ghost use Rattle.pool_parts.specs.declared.page.word.TheConstants.{PAGE_ITEMS};
     ghost use Rattle.page_chain.specs.Walk.{ChainItem};
     ghost use Rattle.linear_pools.specs.declared.linear_object_pool.AnswerOf.{AnswerOf};
     ghost use Rattle.linear_pools.specs.declared.linear_object_pool.LinearObjectPool.{LinearObjectPool};
@@ -49,43 +44,17 @@ impl<'p, T: Drop, I: Init<T, K>, R: Reset<T, K>, K: Clean<T>> Model
         record {
           pool = reusable.pool.now;
           number = reusable.number;
-          item = held_item reusable.holding reusable.value;
-          opening = page_opening reusable.page.now;
+          item = reusable.slot.item;
+          opening = reusable.slot.opening;
         } };
-
-    ghost invariant = { λ reusable.
-        (reusable.holding.seat.table_id ≡ page_identity reusable.page.now)
-        × (reusable.holding.number < PAGE_ITEMS) };
 }
 
 impl<'p, T: Drop, I: Init<T, K>, R: Reset<T, K>, K: Clean<T>> LinearReusable<'p, T, I, R, K> {
-    ghost use Rattle.pool_parts.specs.Page.{IsGivenBack, IsNoteOf, HasLearned, page_identity, page_opening, view_of};
+    ghost use Rattle.pool_parts.specs.Page.{IsGivenBack, IsNoteOf, HasLearned, view_of};
     ghost use Rattle.page_chain.specs.Walk.{IsWalkedTo, page_of_item};
     ghost use Rattle.pool_parts.specs.Answers.{IsMadeOrReset};
     ghost use Rattle.pool_parts.specs.Ledger.{EachReturned};
     ghost use Rattle.linear_pools.specs.LinearPool.{linear_view};
-
-    pub(crate) fn new(
-        pool: &'p LinearObjectPool<T, I, R, K>,
-        page: &'p Page<T, MadeOrReset<I, R, K>>,
-        slot: PageSlot<'p, T, MadeOrReset<I, R, K>>,
-        number: PageNumber<T, MadeOrReset<I, R, K>, AnswerOf<I, K>>,
-    ) -> LinearReusable<'p, T, I, R, K>
-        requires { slot.item.page ≡ page_identity page.now }
-        ensures pool { result.pool ≡ pool.now }
-        ensures item { result.item ≡ slot.entry.item }
-        ensures page { result.number ≡ number }
-        ensures opening { result.opening ≡ page_opening page.now }
-    {
-        let (_, holding, value) = slot.into_parts();
-        LinearReusable {
-            pool,
-            page,
-            holding,
-            number,
-            value,
-        }
-    }
 
     /// Returns the number of the item's page in the pool, counted from 0.
     pub fn page_number(&self) -> usize
@@ -100,7 +69,7 @@ impl<'p, T: Drop, I: Init<T, K>, R: Reset<T, K>, K: Clean<T>> LinearReusable<'p,
         ensures history { (view_of result.seat).operations ≡ self.old.item.history }
         ensures same { self.new ≡ self.old }
     {
-        self.page.witness(&mut self.holding)
+        self.slot.witness()
     }
 
     /// Ensures that this item and another that is held of its page are two: their numbers differ.
@@ -112,7 +81,7 @@ impl<'p, T: Drop, I: Init<T, K>, R: Reset<T, K>, K: Clean<T>> LinearReusable<'p,
         ensures same { self.new ≡ self.old }
         ensures same_other { other.new ≡ other.old }
     {
-        self.page.are_two(&mut self.holding, &mut other.holding);
+        self.slot.differs_from(&mut other.slot);
     }
 
     /// Ensures that this item and another of the pool are of one page, if their pages have one
@@ -130,9 +99,9 @@ impl<'p, T: Drop, I: Init<T, K>, R: Reset<T, K>, K: Clean<T>> LinearReusable<'p,
     {
         self.pool.chain.are_of_one_page(
             &mut self.number,
-            &self.holding,
+            self.slot.holding(),
             &mut other.number,
-            &other.holding,
+            other.slot.holding(),
         );
     }
 
@@ -142,7 +111,7 @@ impl<'p, T: Drop, I: Init<T, K>, R: Reset<T, K>, K: Clean<T>> LinearReusable<'p,
     pub fn note(&self) -> PageNote<T>
         ensures { IsNoteOf self.now.item.page self.now.opening result }
     {
-        self.page.note()
+        self.slot.page().note()
     }
 
     /// Adds what a witness knows of the item's page to what a note knows. Afterwards both their
@@ -152,7 +121,7 @@ impl<'p, T: Drop, I: Init<T, K>, R: Reset<T, K>, K: Clean<T>> LinearReusable<'p,
         requires other { other.seat.table_id ≡ self.now.item.page }
         ensures { HasLearned note.old other note.new }
     {
-        self.page.tell(note, other);
+        self.slot.page().tell(note, other);
     }
 
     /// Resets the value and returns it, as the drop does. The note knows the page's history up to
@@ -167,14 +136,12 @@ impl<'p, T: Drop, I: Init<T, K>, R: Reset<T, K>, K: Clean<T>> LinearReusable<'p,
     {
         let LinearReusable {
             pool,
-            page,
-            holding,
+            mut slot,
             number,
-            mut value,
         } = self;
-        pool.reset(&mut value);
+        pool.reset(&mut slot.value);
         let page_number = number.get();
-        let Returned { note, was_full } = page.give(holding, value);
+        let Returned { note, was_full } = Page::give_slot(slot);
         if was_full {
             pool.chain.no_longer_full(page_number);
         }
@@ -186,7 +153,7 @@ impl<'p, T: Drop, I: Init<T, K>, R: Reset<T, K>, K: Clean<T>> LinearReusable<'p,
         ensures value { result ≡ self.now.item.id }
         ensures in_page { result < PAGE_ITEMS }
     {
-        self.holding.number as PageId
+        self.slot.id()
     }
 }
 
@@ -196,7 +163,7 @@ impl<T: Drop, I: Init<T, K>, R: Reset<T, K>, K: Clean<T>> Deref for LinearReusab
     ghost deref_gives = { λ reusable value. value ≡ reusable.item.value };
 
     fn deref(&self) -> &T {
-        &self.value
+        &self.slot.value
     }
 }
 
@@ -212,7 +179,7 @@ impl<T: Drop, I: Init<T, K>, R: Reset<T, K>, K: Clean<T>> DerefMut
             (LendsLinearValue T.row I.row R.row K.row I.Init R.Reset K.Clean self.entry result) }
         ensures shows { result.now ≡ self.old.item.value }
     {
-        &mut self.value
+        &mut self.slot.value
     }
 }
 
@@ -228,6 +195,6 @@ impl<T: Debug + Drop, I: Init<T, K>, R: Reset<T, K>, K: Clean<T>> Debug
     ghost debug_output = { λ reusable. T.debug_output reusable.item.value };
 
     fn fmt<W: Write>(&self, f: &mut Formatter<W>) -> fmt::Result {
-        Debug::fmt(&self.value, f)
+        Debug::fmt(&self.slot.value, f)
     }
 }

@@ -135,6 +135,8 @@ pub record IsWalkEnd {T K O : Type 0} (meets may_open : T → Type 0) (start : C
     (reached : WalkEnd T K O) : Type 0 where
   pub taken : Pulls meets may_open start limit reached.number reached.slot.item
   pub of_page : page_of_item reached.slot.item ≡ page_view (arc_value reached.page.now)
+  -- which opened as the item shows
+  pub same_opening : reached.slot.opening ≡ reached.slot.item.opening
 
 -- what a pull along the links gives that has passed so many of them: an item, whose page opened with 32 values of this
 -- kind, and is the start if no link was passed

@@ -19,7 +19,7 @@ module _ {T K : Type 0} where
   abbrev pub IsAnsweredBy : (T → Type 0) → (T → Type 0) → PageView T → Allocated T K → Type 0
   IsAnsweredBy meets may_open page (Slot slot) =
       IsPageItem meets slot.item × IsFilled PAGE_ITEMS may_open slot.item.opening
-      × IsPulled page.identity (new_user page.opening slot.item.holder) slot.item
+      × IsPulled page.identity (new_user page.opening slot.item.holder) slot.item × (slot.opening ≡ page.opening)
   IsAnsweredBy meets may_open page (Full seen) = IsFullPage page.identity seen
 
 module _ {T K O : Type 0} {opens : Ghosts O T} where

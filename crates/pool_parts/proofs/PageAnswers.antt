@@ -7,7 +7,7 @@ use Rattle.pool_parts.specs.declared.page.note.PageNote.{PageNote}
 use Rattle.pool_parts.specs.declared.page.full_seen.Allocated.{Allocated}
 use Rattle.pool_parts.specs.declared.page.full_seen.Allocated.TheVariants.{Slot, Full}
 use Rattle.pool_parts.specs.Item.{Item, SeenView, IsPulled}
-use Rattle.pool_parts.specs.Page.{IsReturned, view_of}
+use Rattle.pool_parts.specs.Page.{PageView, IsReturned, view_of}
 use Rattle.pool_parts.specs.Ledger.{History, operations_of, IsLegal, IsPrefixOf, WasOutBetween}
 use Rattle.pool_parts.specs.PageRule.{GoesOn, IsSound}
 use Rattle.pool_parts.proofs.Views.{StartsFrom}
@@ -163,10 +163,10 @@ module _ {T : Type 0} where
 
 module _ {T K : Type 0} where
   -- what a page answered to a user, told of the user as it was before its load
-  pub answered_since : (meets : T → Type 0) (page : TableId) (before start : UserView T) (answer : Allocated T K)
+  pub answered_since : (meets : T → Type 0) (page : PageView T) (before start : UserView T) (answer : Allocated T K)
       → StartsFrom before start → IsSound start → IsAnswerOf meets page start answer
       → IsAnswerOf meets page before answer
   answered_since meets page before start (Slot slot) starts sound is =
-      (is.0, pulled_since page before start slot.item starts sound is.1)
+      (is.0, pulled_since page.identity before start slot.item starts sound is.1, is.2)
   answered_since meets page before start (Full seen) starts sound is =
-      out_since _ page before start seen starts is
+      out_since _ page.identity before start seen starts is

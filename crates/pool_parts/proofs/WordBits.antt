@@ -2,16 +2,16 @@
 use Rattle.std.proofs.Common.{◌≡◌, ℕ, ◌-◌, ◌*◌, ◌/◌, ◌%◌, ◌^◌, ◌<◌, suc, zero, min, List, length, set, get_or}
 use Rattle.std.proofs.Common.{get_or-set_same, length-set, ◌≢◌, ◌+◌, ◌≤◌, bit_and, bit_or, refl, sym, ◌∙◌, ap, arith}
 use Rattle.std.proofs.Common.{inl, inr, replicate}
-use Rattle.std.specs.Int.{bit_at}
+use Rattle.std.specs.Int.{w64, bit_at, bit_not}
 use Rattle.std.specs.Int.Bits.{or_add_and}
 use native.Mathlib.Decide.{ℕ_discrete}
 use mathlib.Core.Logic.{dite}
 use Rattle.std.proofs.lemmas.List.{get_or-set_other, get_or-replicate, get_or_past, length-replicate}
 use Rattle.std.proofs.lemmas.Bool.{cases_lt}
 use Rattle.std.proofs.lemmas.Nat.Bits.{bit_at_lowest, bit_at-suc, bit_at_and}
-use Rattle.std.proofs.lemmas.Nat.Bits.{bit_at_above, bit_at-lt, bit_at_ones}
+use Rattle.std.proofs.lemmas.Nat.Bits.{bit_at_above, bit_at-lt, bit_at_ones, shr_and_one}
 use Rattle.std.proofs.lemmas.Nat.Bits.{bit_at_ones_above, bit_at_or, bit_at-zero, same_from_bits}
-use Rattle.std.proofs.lemmas.Nat.Bits.{bit_at_cat_low, bit_at_cat_high}
+use Rattle.std.proofs.lemmas.Nat.Bits.{bit_at_cat_low, bit_at_cat_high, bit_at_clear_same, bit_at_clear_other}
 use Rattle.std.proofs.lemmas.Nat.{or_lt}
 use lib.Pow.{pow_mono, ones_lt}
 use Rattle.pool_parts.specs.PageRule.{item_bit, IsAllFree}
@@ -221,3 +221,19 @@ module _ (full low : ℕ) (some : 0 < low) (within : low ≤ 32) where
     set = λ id inside. ap (λ w. bit_at w (id % 32)) (word_is (id / 32)) ∙ bit_at_ones _ (id % 32) (omega arith);
     clear = λ id past. ap (λ w. bit_at w (id % 32)) (word_is (id / 32)) ∙ bit_at_ones_above _ (id % 32) (omega arith);
   }
+
+-- the operand of an `and` that clears one bit of a whole word
+pub all_but : (id : ℕ) → id < 32 → ClearsBit (2 ^ 64 - 1) id (bit_and (2 ^ 64 - 1) (bit_not w64 (1 * 2 ^ id % 2 ^ 64)))
+all_but id in_word = record {
+  clear = bit_at_clear_same w64 (2 ^ 64 - 1) _ (omega arith);
+  others = λ i other. grind (
+    arith,
+    bit_at_clear_other w64 (2 ^ 64 - 1) id (omega arith) i,
+    bit_at_above (2 ^ 64 - 1) 64 i,
+    bit_at_and (2 ^ 64 - 1) (bit_not w64 (1 * 2 ^ id % 2 ^ 64)) i,
+  );
+}
+
+-- a bit that a look at it finds not clear
+pub bit_set : (word id : ℕ) → (bit_and (word / 2 ^ id) 1 ≡ 0 → ⊥) → bit_at word id ≡ 1
+bit_set word id found = grind (arith, shr_and_one word id, bit_at-lt word id, found)

@@ -26,10 +26,11 @@ pub record Item (T : Type 0) : Type 0 where
   -- what the users of the page did, up to this pull
   pub history : History T
 
--- what a slot shows: its item, and what its user knows
+-- what a slot shows: its item, what its user knows, and the values that its page opened with, by id
 pub record SlotView (T : Type 0) : Type 0 where
   pub item : Item T
   pub known : UserView T
+  pub opening : List (Option T)
 
 -- what the evidence shows that each item of a page or of a fixed pool was seen in use: which one it is, and what its
 -- user knows

@@ -1,5 +1,5 @@
 -- What a page shows, and what somebody knows of its history: the holder of an item, a note, a witness.
-use Rattle.std.specs.Prelude.{◌≡◌, List, [], ◌∷◌, ◌++◌, Option, Some}
+use Rattle.std.specs.Prelude.{◌≡◌, List, [], ◌∷◌, ◌++◌, Option}
 use base.Stored.{coded_via}
 use Rattle.std.specs.Coded.{Coded, Coded-set, coded_option, coded_list, coded×}
 use Rattle.atomic_table.specs.Seated.{TableId, table_id_coded}

@@ -12,6 +12,7 @@ use Rattle.pool_parts.specs.declared.page.user_view.UserView.{UserView}
 use Rattle.pool_parts.specs.declared.page.word.TheConstants.{PAGE_ITEMS}
 use Rattle.pool_parts.specs.Item.{SlotView, SeenView, IsPageItem, IsPulled, new_user}
 use Rattle.pool_parts.specs.Ledger.{IsLegal, IsPrefixOf, WasOutBetween}
+use Rattle.pool_parts.specs.Page.{PageView}
 
 module _ {T : Type 0} where
   -- a user knows more than it had known before: by a load that came after all of that, and by what came since
@@ -48,9 +49,10 @@ module _ {T K : Type 0} where
 
   -- what this page answers to a user that had known this before: an item of it, which the user pulled; or each of its
   -- items was seen in use
-  abbrev pub IsAnswerOf : (T → Type 0) → TableId → UserView T → Allocated T K → Type 0
-  IsAnswerOf meets page before (Slot slot) = IsPageItem meets slot.item × IsPulled page before slot.item
-  IsAnswerOf meets page before (Full seen) = IsAllOut PAGE_ITEMS page before seen
+  abbrev pub IsAnswerOf : (T → Type 0) → PageView T → UserView T → Allocated T K → Type 0
+  IsAnswerOf meets page before (Slot slot) =
+      IsPageItem meets slot.item × IsPulled page.identity before slot.item × (slot.opening ≡ page.opening)
+  IsAnswerOf meets page before (Full seen) = IsAllOut PAGE_ITEMS page.identity before seen
 
 module _ (T K : RattleType) (clean : Clean.Ghosts K.Denot T.Denot) where
   -- a loan of a borrowed slot's value ends with the slot as it was, but for the value written last

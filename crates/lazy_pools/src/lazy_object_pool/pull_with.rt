@@ -204,12 +204,20 @@ impl<T: Drop, I: Init<T, K>, R: Reset<T, K>, K: Clean<T>> LazyObjectPool<T, I, R
     {
         let PulledItem { holding, value } = pulled;
         if let Some(value) = value {
-            return Ok(LazyReusableOf::new(pool, PulledItem { holding, value }));
+            return Ok(LazyReusableOf {
+                pool,
+                holding,
+                value,
+            });
         }
         match make() {
             Ok(value) => {
                 self.count_made();
-                Ok(LazyReusableOf::new(pool, PulledItem { holding, value }))
+                Ok(LazyReusableOf {
+                    pool,
+                    holding,
+                    value,
+                })
             }
             Err(cause) => {
                 self.give_place(holding);

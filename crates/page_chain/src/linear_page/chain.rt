@@ -90,18 +90,11 @@ impl<T: Drop, K: Clean<T>, O: Clean<T>> Chain<T, K, O> {
         LinearPage::new(&self.directory, &self.first, 0)
     }
 
-    /// Returns the first page with its items.
-    pub fn first_items(&self) -> &Page<T, K>
-        ensures { page_view result.now ≡ (first_page self.now).page }
-    {
-        self.first.owner()
-    }
-
     /// Pulls from the first page.
     pub fn take_first<'s, 'p>(&'s self, pass: &'p PullPass) -> Allocated<'s, 'p, T, K>
         ensures { IsAnsweredBy K.meets O.meets (first_page self.now).page result }
     {
-        self.first.take(pass).answer
+        self.first.page.take(pass).answer
     }
 
     /// Pulls from the first page, by a user that knows something of it. The pull comes after all
@@ -112,16 +105,16 @@ impl<T: Drop, K: Clean<T>, O: Clean<T>> Chain<T, K, O> {
         note: PageNote<T>,
     ) -> Allocated<'s, 'p, T, K>
         requires { note.seat.table_id ≡ (first_page self.now).page.identity }
-        ensures { IsAnswerOf K.meets (first_page self.now).page.identity (view_of note.seat) result }
+        ensures { IsAnswerOf K.meets (first_page self.now).page (view_of note.seat) result }
     {
-        self.first.owner().take_from(pass, note)
+        self.first.page.take_from(pass, note)
     }
 
     /// Returns the number of the first page.
     pub fn first_number(&self) -> PageNumber<T, K, O>
         ensures { result.number ≡ 0 }
     {
-        PageNumber::of_start(self.directory.allocator(), 0)
+        PageNumber::of_start(self.directory.alloc, 0)
     }
 
     /// Pulls from a page that a hint names, or from the first page along the links that has an

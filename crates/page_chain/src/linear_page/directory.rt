@@ -78,7 +78,7 @@ fn no_hints(alloc: Global, words: usize) -> Result<Vec<HintWord>, PullError>
 /// The links of a chain. Contracts see the rows.
 #[derive(Drop)]
 pub(super) struct Directory<T, K: Clean<T>, O: Clean<T>> {
-    alloc: Global,
+    pub(super) alloc: Global,
     rows: Vec<OnceBox<Row<T, K, O>>>,
     /// A hint for each row, which is set if a hint of the row may be set.
     hinted_rows: HintWord,

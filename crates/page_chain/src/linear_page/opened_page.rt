@@ -21,7 +21,7 @@ use std::sync::{Arc, Mutex};
 /// Contracts see the page's owner. The marker may be sent and shared whatever `O` is.
 #[derive(Drop)]
 pub(super) struct OpenedPage<T, K: Clean<T>, O: Clean<T>> {
-    page: Arc<Page<T, K>>,
+    pub(super) page: Arc<Page<T, K>>,
     marker: PhantomData<Mutex<Badge<O>>>,
 }
 
@@ -66,7 +66,7 @@ impl<T, K: Clean<T>, O: Clean<T>> OpenedPage<T, K, O> {
     pub(super) fn take<'s, 'p>(&'s self, pass: &'p PullPass) -> PageAnswer<'s, 'p, T, K>
         ensures { IsAnsweredBy K.meets O.meets (page_view (arc_value self.now)) result.answer }
     {
-        self.owner().take(pass)
+        self.page.take(pass)
     }
 }
 

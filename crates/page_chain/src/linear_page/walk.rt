@@ -2,7 +2,7 @@
 ghost use Rattle.std.specs.Prelude.{◌≡◌, ◌+◌, ◌-◌, ◌^◌, ◌≤◌, ◌<◌, ⊤, Option, None, Some, IfSome, IsSome, IsTrue, IsFalse, IfOk, IfErr};
 ghost use Rattle.std.specs.Arc.{arc_value};
 ghost use Rattle.pool_parts.specs.Answers.{MayMake, Refuses};
-ghost use Rattle.page_chain.specs.Walk.{shown_page, page_of_item, Pulls, PullsAlong, IsWalkEnd, IsRefusedBy, cause_of};
+ghost use Rattle.page_chain.specs.Walk.{shown_page, page_of_item, PullsAlong, IsWalkEnd, IsRefusedBy, cause_of};
 ghost use Rattle.pool_parts.specs.Page.{page_view};
 ghost use Rattle.pool_parts.specs.Slot.{IsFullPage};
 ghost use Rattle.page_chain.specs.WalkSteps.{IsAnsweredBy, IsFullAt, IsKnownAt};
@@ -212,10 +212,7 @@ impl<'c, T: Drop, K: Clean<T>, O: Clean<T>> LinearPage<'c, T, K, O> {
         requires some_page { IfSome limit (λ pages. 1 ≤ pages) }
         requires may_make { MayMake I.pre I.post K.meets init.now }
         requires opens { MayMake I.pre I.post O.meets init.now }
-        ensures taken { IfOk result (λ reached.
-            Pulls K.meets O.meets (shown_page self.now) limit reached.number reached.slot.item) }
-        ensures page { IfOk result (λ reached.
-            page_of_item reached.slot.item ≡ page_view (arc_value reached.page.now)) }
+        ensures taken { IfOk result (IsWalkEnd K.meets O.meets (shown_page self.now) limit) }
         ensures refused { IfErr result (Refuses ⊤ (I.post init.now None) (IsSome limit)) }
     {
         let pass = PullPass::new();
@@ -377,6 +374,7 @@ impl<T: Drop, K: Clean<T>, O: Clean<T>> WalkEnd<'_, T, K, O> {
     /// `Memory` if the page can have no more owners. Then the item is returned to its page.
     pub fn into_owned(self) -> Result<(OwnedSlot<T, K>, PageNumber<T, K, O>), PullError>
         requires of_page { page_of_item self.slot.item ≡ page_view (arc_value self.page.now) }
+        requires same_opening { self.slot.opening ≡ self.slot.item.opening }
         requires meets { K.meets self.slot.item.value }
         ensures item { IfOk result (λ reached. reached.0.item ≡ self.entry.slot.item) }
         ensures number { IfOk result (λ reached. reached.1 ≡ self.entry.number) }

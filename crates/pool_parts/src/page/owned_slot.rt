@@ -35,7 +35,7 @@ impl<T, K: Clean<T>> Model for OwnedSlot<T, K> {
     ghost use Rattle.std.specs.Prelude.{◌≡◌, ◌<◌};
     ghost use Rattle.std.specs.Arc.{arc_value};
     ghost use Rattle.pool_parts.specs.Item.{SlotView};
-    ghost use Rattle.pool_parts.specs.Page.{page_identity, held_item, view_of};
+    ghost use Rattle.pool_parts.specs.Page.{page_identity, page_opening, held_item, view_of};
     ghost use Rattle.pool_parts.specs.declared.page.word.TheConstants.{PAGE_ITEMS};
 
     ghost Value = { SlotView T };
@@ -44,6 +44,7 @@ impl<T, K: Clean<T>> Model for OwnedSlot<T, K> {
         record {
           item = held_item slot.holding slot.value;
           known = view_of slot.holding.seat;
+          opening = page_opening (arc_value slot.page);
         } };
 
     ghost invariant = { λ slot.

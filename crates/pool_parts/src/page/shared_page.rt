@@ -42,7 +42,7 @@ impl<T: Drop, K: Clean<T>> Drop for Page<T, K> {
 impl<T, K: Clean<T>> Page<T, K> {
     ghost use Rattle.pool_parts.specs.Answers.{MayMake, Refuses};
     ghost use Rattle.pool_parts.specs.Slot.{IsAnswerOf, ReadsOnce, answer_view};
-    ghost use Rattle.pool_parts.specs.Page.{held_item, HoldsSame, IsReturned, IsNoteOf, HasLearned, page_identity, page_opening, view_of};
+    ghost use Rattle.pool_parts.specs.Page.{held_item, HoldsSame, IsReturned, IsNoteOf, HasLearned, page_identity, page_opening, page_view, view_of};
     ghost use Rattle.pool_parts.specs.Item.{IsPageItem, IsPulled, IsFilled, new_user};
     ghost use Rattle.pool_parts.specs.PageRule.{MayTake, IsOutNow};
     ghost use Rattle.pool_parts.specs.Ledger.{EachReturned};
@@ -89,6 +89,8 @@ impl<T, K: Clean<T>> Page<T, K> {
         ensures pulled { IfOk result (λ found. IfSome found
             (λ slot. IsPulled (page_identity self.now)
             (new_user (page_opening self.now) slot.item.holder) slot.item)) }
+        ensures opening { IfOk result (λ found. IfSome found
+            (λ slot. slot.opening ≡ page_opening self.now)) }
         ensures steps { IfOk result (λ found. IfSome found (λ slot. ReadsOnce 0 0 slot.known)) }
     {
         let pass = PullPass::new();
@@ -109,7 +111,7 @@ impl<T, K: Clean<T>> Page<T, K> {
         pass: &'p PullPass,
     ) -> Result<Allocated<'s, 'p, T, K>, PullError>
         ensures succeeds { IsOk result }
-        ensures answer { IfOk result (λ answer. IsAnswerOf K.meets (page_identity self.now)
+        ensures answer { IfOk result (λ answer. IsAnswerOf K.meets (page_view self.now)
             (new_user (page_opening self.now) (answer_view answer).user) answer) }
         ensures steps { IfOk result (λ answer. ReadsOnce 0 0 (answer_view answer)) }
     {
@@ -119,7 +121,7 @@ impl<T, K: Clean<T>> Page<T, K> {
     /// Pulls a free item, or finds that each is in use. It returns too whether the page was left
     /// full.
     pub fn take<'s, 'p>(&'s self, pass: &'p PullPass) -> PageAnswer<'s, 'p, T, K>
-        ensures answer { IsAnswerOf K.meets (page_identity self.now)
+        ensures answer { IsAnswerOf K.meets (page_view self.now)
             (new_user (page_opening self.now) (answer_view result.answer).user) result.answer }
         ensures steps { ReadsOnce 0 0 (answer_view result.answer) }
     {
@@ -141,7 +143,7 @@ impl<T, K: Clean<T>> Page<T, K> {
         requires page { note.seat.table_id ≡ page_identity self.now }
         ensures succeeds { IsOk result }
         ensures answer { IfOk result
-            (IsAnswerOf K.meets (page_identity self.now) (view_of note.seat)) }
+            (IsAnswerOf K.meets (page_view self.now) (view_of note.seat)) }
         ensures steps { IfOk result
             (λ answer. ReadsOnce (view_of note.seat).loads (view_of note.seat).tries
             (answer_view answer)) }
@@ -156,7 +158,7 @@ impl<T, K: Clean<T>> Page<T, K> {
         note: PageNote<T>,
     ) -> Allocated<'s, 'p, T, K>
         requires page { note.seat.table_id ≡ page_identity self.now }
-        ensures answer { IsAnswerOf K.meets (page_identity self.now) (view_of note.seat) result }
+        ensures answer { IsAnswerOf K.meets (page_view self.now) (view_of note.seat) result }
         ensures steps { ReadsOnce (view_of note.seat).loads (view_of note.seat).tries
             (answer_view result) }
     {
@@ -222,7 +224,7 @@ impl<T, K: Clean<T>> Page<T, K> {
         requires from_now { seat.me.0.at_load ≡ seat.me.0.operations }
         requires found { (id : ℕ) → id < PAGE_ITEMS → bit_at word id ≡ 0
             → IsOutNow seat.me.0 (32 * 0 + id) }
-        ensures answer { IsAnswerOf K.meets (page_identity self.now) seat.me.0 result.answer }
+        ensures answer { IsAnswerOf K.meets (page_view self.now) seat.me.0 result.answer }
         ensures same_user { (answer_view result.answer).user ≡ seat.me.0.user }
         ensures loads { (answer_view result.answer).loads ≡ seat.me.0.loads }
         ensures tries { (answer_view result.answer).tries ≤ seat.me.0.tries + PAGE_ITEMS }
@@ -256,8 +258,17 @@ impl<T, K: Clean<T>> Page<T, K> {
         ensures returned { IsReturned slot.entry.item result }
         ensures each_returned { EachReturned K.meets (view_of result.seat).operations }
     {
+        Page::give_slot(slot).note
+    }
+
+    /// Returns an item to its page, with its value. It returns too whether the page was full.
+    pub fn give_slot(slot: PageSlot<'_, T, K>) -> Returned<T>
+        requires { K.meets slot.item.value }
+        ensures returned { IsReturned slot.entry.item result.note }
+        ensures each_returned { EachReturned K.meets (view_of result.note.seat).operations }
+    {
         let (page, holding, value) = slot.into_parts();
-        page.give(holding, value).note
+        page.give(holding, value)
     }
 
     /// Returns an item to this page by what its holder has, with a value.

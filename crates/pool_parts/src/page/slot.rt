@@ -32,13 +32,14 @@ use std::sync::Arc;
 pub struct PageSlot<'s, T, K: Clean<T>> {
     pub(super) page: &'s Page<T, K>,
     pub(super) holding: Holding<T>,
-    pub(super) value: T,
+    /// The item's value.
+    pub value: T,
 }
 
 impl<'s, T, K: Clean<T>> Model for PageSlot<'s, T, K> {
     ghost use Rattle.std.specs.Prelude.{◌≡◌, ◌<◌};
     ghost use Rattle.pool_parts.specs.Item.{SlotView};
-    ghost use Rattle.pool_parts.specs.Page.{page_identity, held_item, view_of};
+    ghost use Rattle.pool_parts.specs.Page.{page_identity, page_opening, held_item, view_of};
     ghost use Rattle.pool_parts.specs.declared.page.word.TheConstants.{PAGE_ITEMS};
 
     ghost Value = { SlotView T };
@@ -47,6 +48,7 @@ impl<'s, T, K: Clean<T>> Model for PageSlot<'s, T, K> {
         record {
           item = held_item slot.holding slot.value;
           known = view_of slot.holding.seat;
+          opening = page_opening slot.page.now;
         } };
 
     ghost invariant = { λ slot.
@@ -55,7 +57,7 @@ impl<'s, T, K: Clean<T>> Model for PageSlot<'s, T, K> {
 }
 
 impl<'s, T, K: Clean<T>> PageSlot<'s, T, K> {
-    ghost use Rattle.pool_parts.specs.Page.{held_item, view_of};
+    ghost use Rattle.pool_parts.specs.Page.{held_item, held_page, page_opening, view_of};
 
     /// Returns the number of the item in its page.
     pub fn id(&self) -> PageId
@@ -65,11 +67,28 @@ impl<'s, T, K: Clean<T>> PageSlot<'s, T, K> {
         self.holding.number as PageId
     }
 
+    /// Returns the item's page.
+    pub fn page(&self) -> &'s Page<T, K>
+        ensures page { page_identity result.now ≡ self.now.item.page }
+        ensures opening { page_opening result.now ≡ self.now.opening }
+    {
+        self.page
+    }
+
+    /// Returns what the holder of the item has.
+    pub fn holding(&self) -> &Holding<T>
+        ensures page { (held_page result.now).identity ≡ self.now.item.page }
+        ensures opening { (held_page result.now).opening ≡ self.now.item.opening }
+    {
+        &self.holding
+    }
+
     /// Returns what the holder knows of the page, for another user. It costs one load.
     pub fn witness(&mut self) -> Witness<T>
         ensures page { result.seat.table_id ≡ self.old.item.page }
         ensures history { (view_of result.seat).operations ≡ self.old.item.history }
         ensures same_item { self.new.item ≡ self.old.item }
+        ensures same_page { self.new.opening ≡ self.old.opening }
     {
         self.page.witness(&mut self.holding)
     }
@@ -81,7 +100,9 @@ impl<'s, T, K: Clean<T>> PageSlot<'s, T, K> {
         requires page { other.old.item.page ≡ self.old.item.page }
         ensures differ { self.old.item.id ≢ other.old.item.id }
         ensures same_item { self.new.item ≡ self.old.item }
+        ensures same_page { self.new.opening ≡ self.old.opening }
         ensures same_other { other.new.item ≡ other.old.item }
+        ensures same_other_page { other.new.opening ≡ other.old.opening }
     {
         self.page.are_two(&mut self.holding, &mut other.holding);
     }
@@ -112,7 +133,8 @@ impl<'s, T, K: Clean<T>> PageSlot<'s, T, K> {
 
     /// Returns the same item with an owner of the page in place of the borrow.
     pub fn into_owned(self, page: Arc<Page<T, K>>) -> OwnedSlot<T, K>
-        requires { self.item.page ≡ page_identity (arc_value page) }
+        requires page { self.item.page ≡ page_identity (arc_value page) }
+        requires opening { self.opening ≡ page_opening (arc_value page) }
         ensures { result ≡ self.entry }
     {
         let PageSlot {

@@ -6,7 +6,7 @@ use super::holding::Holding;
 use super::items::Items;
 use super::rule::{ClearBit, Count, Look, LookAgain, SetBit};
 use super::user_view::UserSeat;
-use super::word::{PAGE_ITEMS, PageId, all_but, count_of, is_bit_set, low_half, with_bit};
+use super::word::{PAGE_ITEMS, PageId, count_of, low_half, with_bit};
 use crate::clean::Clean;
 
 impl<T, K: Clean<T>> Items<T, K> {
@@ -68,9 +68,9 @@ impl<T, K: Clean<T>> Items<T, K> {
             × (seat.new.me.0.tries ≡ seat.old.me.0.tries + 1)) }
     {
         let words = &self.table.shared;
-        let others = all_but(bit);
+        let others = u64::MAX & !(1 << bit);
         let found = words.fetch_and::<ClearBit<K>>(seat, page, others);
-        if !is_bit_set(found, bit) {
+        if found >> bit & 1 == 0 {
             return None;
         }
         match words.exchange(seat, PAGE_ITEMS * page + bit as usize, None) {

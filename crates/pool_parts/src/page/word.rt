@@ -52,14 +52,6 @@ pub fn has_bit(word: u32, id: PageId) -> bool
     word >> id & 1 == 1
 }
 
-/// Returns whether the bit is set in a whole word, which has a count too.
-pub(super) fn is_bit_set(word: u64, id: PageId) -> bool
-    requires { id < PAGE_ITEMS }
-    ensures { IsTrue result ↔ (bit_at word id ≡ 1) }
-{
-    word >> id & 1 == 1
-}
-
 /// Returns whether no bit is set.
 pub(super) fn is_none_free(word: u32) -> bool
     ensures { IsTrue result ↔ (word ≡ 0) }
@@ -79,12 +71,4 @@ pub(super) fn count_of(word: u64) -> u32
     ensures { result ≡ (word / 2 ^ 32) }
 {
     (word >> 32) as u32
-}
-
-/// Returns a word in which each bit is set but this one, those of the count too.
-pub(super) fn all_but(id: PageId) -> u64
-    requires { id < PAGE_ITEMS }
-    ensures { ClearsBit (2 ^ 64 - 1) id result }
-{
-    u64::MAX & !(1 << id)
 }

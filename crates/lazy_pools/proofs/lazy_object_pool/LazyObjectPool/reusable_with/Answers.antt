@@ -9,7 +9,7 @@ pub returns-in-Some-clause-pulled : goal.returns-in-Some-clause-pulled
 returns-in-Some-clause-pulled g c =
     let pool = lazy_view c.args.self.now in
     let place = c.requires.pulled in
-    rw (c.new.ensures.place, c.new.ensures.value) record {
+    record {
       found = Some c.in-Some.value;
       pulled =
           subst (λ found. IsPulled pool.identity (new_user pool.opening (view_of c.args.pulled.holding.seat).user)

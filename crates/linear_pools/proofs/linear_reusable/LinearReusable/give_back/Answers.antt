@@ -1,8 +1,8 @@
 use Rattle.linear_pools.proofs.linear_reusable.LinearReusable.give_back.Goals as goal
 
 pub returns-clause-given : goal.returns-clause-given
-returns-clause-given g c = rw (← c.self.view_is) record {
+returns-clause-given g c = rw (← c.self.view_is) (rw (← c.slot.view_is) record {
   left = c.reset.new.value;
   by_reset = c.reset.ensures.leaves;
-  returned = c.give-note.ensures.returned;
-}
+  returned = c.give_slot-note.ensures.returned;
+})
