@@ -1,6 +1,7 @@
 //! Two items of one linear pool: callers that put the laws to use.
 ghost use Rattle.std.specs.Prelude.{◌≡◌, ◌≢◌, IfOk};
 ghost use Rattle.pool_parts.specs.Answers.{IsMadeOrReset};
+ghost use Rattle.pool_parts.specs.Page.{IsGivenBack};
 ghost use Rattle.linear_pools.specs.LinearPool.{Pulls, linear_view};
 ghost use Rattle.one_pool.specs.Together.{StandTogether, known_by, noted};
 ghost use Rattle.one_pool.specs.Names.{pool_user};
@@ -40,8 +41,9 @@ pub fn pull_two<'p, T: Drop, I: Init<T, K>, R: Reset<T, K>, K: Clean<T>>(
     Ok((one, other))
 }
 
-/// Returns two items of a pool, of different pages, the second before the first. Their pulls and
-/// returns stand in one legal history of one pool that grows, as the notes know.
+/// Returns two items of a pool, of different pages, the second before the first. Each note is that
+/// of its item's return. The pulls and returns of both stand in one legal history of one pool that
+/// grows, as the notes know.
 pub fn return_two<T: Drop, I: Init<T, K>, R: Reset<T, K>, K: Clean<T>>(
     one: LinearReusable<'_, T, I, R, K>,
     other: LinearReusable<'_, T, I, R, K>,
@@ -49,7 +51,11 @@ pub fn return_two<T: Drop, I: Init<T, K>, R: Reset<T, K>, K: Clean<T>>(
     requires one { Pulls K.meets I.answers R.leaves one.pool one.number one.item }
     requires other { Pulls K.meets I.answers R.leaves one.pool other.number other.item }
     requires apart { one.number.number ≢ other.number.number }
-    ensures { StandTogether pool_user (linear_view one.entry.pool).limit
+    ensures one_returned { IsGivenBack (R.leaves (linear_view one.entry.pool).reset) one.entry.item
+        result.0 }
+    ensures other_returned { IsGivenBack (R.leaves (linear_view other.entry.pool).reset)
+        other.entry.item result.1 }
+    ensures together { StandTogether pool_user (linear_view one.entry.pool).limit
         (λ value. K.meets value × IsMadeOrReset I.answers R.leaves value)
         (noted one.entry.number.number result.0) (noted other.entry.number.number result.1) }
 {
