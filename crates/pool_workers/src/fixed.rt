@@ -4,6 +4,7 @@ ghost use Rattle.pool_parts.specs.declared.pull_error.PullError.TheVariants.{Lim
 
 use crate::worker_place::WorkerPlace;
 use fixed_pools::FixedObjectPool;
+use fixed_pools::fixed_object_pool::PoolNote;
 use fixed_pools::near::Near;
 use pool_parts::PullError;
 use pool_parts::clean::{AnyValue, Clean};
@@ -12,7 +13,6 @@ use pool_parts::page::inside::Holding;
 use std::marker::Model;
 
 /// What a user has of an item of a fixed pool, apart from the item's value.
-#[derive(Drop)]
 pub struct FixedHeld<'p, T, I: Init<T, K>, R: Reset<T, K>, K: Clean<T> = AnyValue> {
     pool: &'p FixedObjectPool<T, I, R, K>,
     holding: Holding<T>,
@@ -57,15 +57,20 @@ impl<'p, T: Drop, I: Init<T, K>, R: Reset<T, K>, K: Clean<T>> WorkerPlace<T>
     for Near<'p, T, I, R, K> {
     ghost use Rattle.fixed_pools.specs.FixedPool.{fixed_view};
     ghost use Rattle.pool_parts.specs.Answers.{IsMadeOrReset};
-    ghost use Rattle.pool_workers.specs.Workers.{IsPulledFromFixed};
+    ghost use Rattle.pool_parts.specs.Page.{IsReturned};
+    ghost use Rattle.pool_workers.specs.Workers.{IsPulledFromFixed, item_of};
 
     type Held = FixedHeld<'p, T, I, R, K>;
+
+    type Note = PoolNote<T>;
 
     ghost is_pulled = { IsPulledFromFixed K.meets I.answers R.leaves };
 
     ghost keeps = { λ value. K.meets value × IsMadeOrReset I.answers R.leaves value };
 
     ghost leaves = { λ held. R.leaves (fixed_view held.pool).reset };
+
+    ghost is_returned = { λ held value. IsReturned (item_of held value) };
 
     ghost refuses = { λ _ error. error ≡ Limit };
 
@@ -79,14 +84,17 @@ impl<'p, T: Drop, I: Init<T, K>, R: Reset<T, K>, K: Clean<T>> WorkerPlace<T>
     }
 
     #[inline(always)]
-    fn reset(held: FixedHeld<'p, T, I, R, K>, value: T) -> Option<(FixedHeld<'p, T, I, R, K>, T)> {
+    fn reset(
+        held: FixedHeld<'p, T, I, R, K>,
+        value: T,
+    ) -> Result<(FixedHeld<'p, T, I, R, K>, T), PoolNote<T>> {
         let mut left = value;
         held.pool.reset(&mut left);
-        Some((held, left))
+        Ok((held, left))
     }
 
-    fn give_back(held: FixedHeld<'p, T, I, R, K>, value: T) {
+    fn give_back(held: FixedHeld<'p, T, I, R, K>, value: T) -> PoolNote<T> {
         let FixedHeld { pool, holding } = held;
-        pool.give_reset(holding, value);
+        pool.give_reset(holding, value)
     }
 }

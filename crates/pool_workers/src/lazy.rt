@@ -1,7 +1,8 @@
 //! Workers of a lazy pool.
-ghost use Rattle.std.specs.Prelude.{◌≡◌, ◌<◌, None, ⊤};
+ghost use Rattle.std.specs.Prelude.{◌≡◌, ◌<◌, None, Some, ⊤};
 
 use crate::worker_place::WorkerPlace;
+use fixed_pools::fixed_object_pool::PoolNote;
 use lazy_pools::LazyObjectPool;
 use lazy_pools::near::Near;
 use pool_parts::PullError;
@@ -11,7 +12,6 @@ use pool_parts::page::inside::Holding;
 use std::marker::Model;
 
 /// What a user has of an item of a lazy pool, apart from the item's value.
-#[derive(Drop)]
 pub struct LazyHeld<'p, T, I: Init<T, K>, R: Reset<T, K>, K: Clean<T> = AnyValue> {
     pool: &'p LazyObjectPool<T, I, R, K>,
     holding: Holding<Option<T>>,
@@ -53,9 +53,12 @@ impl<'p, T: Drop, I: Init<T, K>, R: Reset<T, K>, K: Clean<T>> WorkerPlace<T>
     for Near<'p, T, I, R, K> {
     ghost use Rattle.lazy_pools.specs.LazyPool.{lazy_view};
     ghost use Rattle.pool_parts.specs.Answers.{IsMadeOrReset, RefusesOrClosed};
-    ghost use Rattle.pool_workers.specs.Workers.{IsPulledFromLazy};
+    ghost use Rattle.pool_parts.specs.Page.{IsReturned};
+    ghost use Rattle.pool_workers.specs.Workers.{IsPulledFromLazy, item_of};
 
     type Held = LazyHeld<'p, T, I, R, K>;
+
+    type Note = PoolNote<Option<T>>;
 
     ghost is_pulled = { IsPulledFromLazy K.meets I.answers R.leaves };
 
@@ -64,6 +67,10 @@ impl<'p, T: Drop, I: Init<T, K>, R: Reset<T, K>, K: Clean<T>> WorkerPlace<T>
     ghost leaves = { λ held. R.leaves held.pool.reset };
 
     ghost rejects = { λ held. R.rejects held.pool.reset };
+
+    ghost is_returned = { λ held value. IsReturned (item_of held (Some value)) };
+
+    ghost is_emptied = { λ held. IsReturned (item_of held None) };
 
     ghost refuses = { λ place. RefusesOrClosed ⊥ (I.answers (lazy_view place.pool.now).init None) ⊤ };
 
@@ -75,19 +82,26 @@ impl<'p, T: Drop, I: Init<T, K>, R: Reset<T, K>, K: Clean<T>> WorkerPlace<T>
     }
 
     #[inline(always)]
-    fn reset(held: LazyHeld<'p, T, I, R, K>, value: T) -> Option<(LazyHeld<'p, T, I, R, K>, T)> {
+    fn is_closed(&self) -> bool {
+        self.pool.is_closed()
+    }
+
+    #[inline(always)]
+    fn reset(
+        held: LazyHeld<'p, T, I, R, K>,
+        value: T,
+    ) -> Result<(LazyHeld<'p, T, I, R, K>, T), PoolNote<Option<T>>> {
         match held.pool.try_reset(value) {
-            Some(left) => Some((held, left)),
+            Some(left) => Ok((held, left)),
             None => {
                 let LazyHeld { pool, holding } = held;
-                pool.give_reset(holding, None);
-                None
+                Err(pool.give_reset(holding, None))
             }
         }
     }
 
-    fn give_back(held: LazyHeld<'p, T, I, R, K>, value: T) {
+    fn give_back(held: LazyHeld<'p, T, I, R, K>, value: T) -> PoolNote<Option<T>> {
         let LazyHeld { pool, holding } = held;
-        pool.give_reset(holding, Some(value));
+        pool.give_reset(holding, Some(value))
     }
 }

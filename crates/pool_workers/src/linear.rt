@@ -10,12 +10,11 @@ use pool_parts::PullError;
 use pool_parts::clean::{AnyValue, Clean};
 use pool_parts::closures::{Init, Reset};
 use pool_parts::made_or_reset::MadeOrReset;
-use pool_parts::page::PageId;
 use pool_parts::page::inside::Holding;
+use pool_parts::page::{PageId, PageNote};
 use std::marker::Model;
 
 /// What a user has of an item of a linear pool, apart from the item's value.
-#[derive(Drop)]
 pub struct LinearHeld<'p, T, I: Init<T, K>, R: Reset<T, K>, K: Clean<T> = AnyValue> {
     pool: &'p LinearObjectPool<T, I, R, K>,
     number: PageNumber<T, MadeOrReset<I, R, K>, AnswerOf<I, K>>,
@@ -72,15 +71,20 @@ impl<'p, T: Drop, I: Init<T, K>, R: Reset<T, K>, K: Clean<T>> WorkerPlace<T>
     for &'p LinearObjectPool<T, I, R, K> {
     ghost use Rattle.linear_pools.specs.LinearPool.{linear_view};
     ghost use Rattle.pool_parts.specs.Answers.{IsMadeOrReset, Refuses};
-    ghost use Rattle.pool_workers.specs.Workers.{IsPulledFromLinear};
+    ghost use Rattle.pool_parts.specs.Page.{IsReturned};
+    ghost use Rattle.pool_workers.specs.Workers.{IsPulledFromLinear, item_of};
 
     type Held = LinearHeld<'p, T, I, R, K>;
+
+    type Note = PageNote<T>;
 
     ghost is_pulled = { IsPulledFromLinear K.meets I.answers R.leaves };
 
     ghost keeps = { λ value. K.meets value × IsMadeOrReset I.answers R.leaves value };
 
     ghost leaves = { λ chain. R.leaves (linear_view chain.held.pool).reset };
+
+    ghost is_returned = { λ chain value. IsReturned (item_of chain.held value) };
 
     ghost refuses = { λ pool.
         Refuses ⊤ (I.answers (linear_view pool.now).init None)
@@ -102,18 +106,18 @@ impl<'p, T: Drop, I: Init<T, K>, R: Reset<T, K>, K: Clean<T>> WorkerPlace<T>
     fn reset(
         held: LinearHeld<'p, T, I, R, K>,
         value: T,
-    ) -> Option<(LinearHeld<'p, T, I, R, K>, T)> {
+    ) -> Result<(LinearHeld<'p, T, I, R, K>, T), PageNote<T>> {
         let mut left = value;
         held.pool.reset(&mut left);
-        Some((held, left))
+        Ok((held, left))
     }
 
-    fn give_back(held: LinearHeld<'p, T, I, R, K>, value: T) {
+    fn give_back(held: LinearHeld<'p, T, I, R, K>, value: T) -> PageNote<T> {
         let LinearHeld {
             pool,
             number,
             holding,
         } = held;
-        pool.give_reset(number, holding, value);
+        pool.give_reset(number, holding, value)
     }
 }

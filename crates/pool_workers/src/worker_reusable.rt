@@ -1,14 +1,15 @@
 //! A value that was pulled by a worker.
 ghost use Rattle.std.specs.Prelude.{◌≡◌};
 
-use crate::worker::{Spare, Worker};
+use crate::spare::Spare;
+use crate::worker::Worker;
 use crate::worker_place::WorkerPlace;
 use std::fmt::{self, Debug, Formatter, Write};
 use std::marker::Model;
 use std::ops::{Deref, DerefMut};
 
 /// A value that a worker pulled. Its drop resets it, and the worker keeps the item, or returns it
-/// to the pool if it keeps another.
+/// to the pool if there is no room for it.
 ///
 /// In a clause it is what the worker has of the item, and the value.
 ///
@@ -61,7 +62,8 @@ impl<T: Drop, P: WorkerPlace<T>> DerefMut for WorkerReusable<'_, T, P> {
     ghost deref_mut_gives = { λ reusable value. value ≡ reusable.value };
 
     fn deref_mut(&mut self) -> &mut T
-        ensures* writes_back { sem 𝓛 (LendsValue T.row P.row P.Held.row P.WorkerPlace self.entry result) }
+        ensures* writes_back { sem 𝓛
+            (LendsValue T.row P.row P.Held.row P.Note.row P.WorkerPlace self.entry result) }
         ensures shows { result.now ≡ self.old.value }
     {
         &mut self.value
@@ -84,8 +86,9 @@ impl<T: Drop, P: WorkerPlace<T>> Drop for WorkerReusable<'_, T, P> {
             held,
             value,
         } = self;
-        if let Some((held, value)) = P::reset(held, value) {
-            worker.keep(Spare { held, value });
+        match P::reset(held, value) {
+            Ok((held, value)) => worker.keep(Spare { held, value }),
+            Err(_emptied) => {}
         }
     }
 }

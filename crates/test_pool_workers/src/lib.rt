@@ -16,6 +16,8 @@ mod pools;
 #[cfg(test)]
 mod rejecting;
 #[cfg(test)]
+mod rooms;
+#[cfg(test)]
 mod sends;
 #[cfg(test)]
 mod threads;

@@ -14,9 +14,8 @@ fn get_ready<R: Abort + Print>(rt: &R) {
     told.expect(rt, "a line can be printed");
 }
 
-/// Makes a worker that pulls two items at once, three times, and ends.
-fn use_worker<P: WorkerPlace<Tallied>>(rt: &impl Abort, place: P) {
-    let worker = Worker::new(place);
+/// Pulls two items at once by a worker, three times, and ends it.
+fn use_worker<P: WorkerPlace<Tallied>>(rt: &impl Abort, worker: Worker<Tallied, P>) {
     for _ in 0..3 {
         let first = worker.pull().expect(rt, "an item is free");
         let second = worker.pull().expect(rt, "another item is free");
@@ -40,10 +39,45 @@ fn calls_of_a_worker_ask_for_no_memory(rt: HostRuntime) {
         return;
     };
     get_ready(&rt);
-    use_worker(&rt, fixed.near());
-    use_worker(&rt, lazy.near());
-    use_worker(&rt, &linear);
+    use_worker(&rt, Worker::new(fixed.near()));
+    use_worker(&rt, Worker::new(lazy.near()));
+    use_worker(&rt, Worker::new(&linear));
     assert_equal(&rt, tally.resets(), 18);
+}
+
+#[test]
+fn calls_of_a_worker_with_room_ask_for_no_memory(rt: HostRuntime) {
+    let Ok(tally) = new_tally(rt.alloc()) else {
+        return;
+    };
+    let Ok(fixed) = fixed_of(rt.alloc(), &tally, 2) else {
+        return;
+    };
+    let Ok(linear) = linear_of(rt.alloc(), &tally) else {
+        return;
+    };
+    let Ok(in_fixed) = Worker::with_room(rt.alloc(), fixed.near(), 2) else {
+        return;
+    };
+    let Ok(in_linear) = Worker::with_room(rt.alloc(), &linear, 40) else {
+        return;
+    };
+    get_ready(&rt);
+    use_worker(&rt, in_fixed);
+    use_worker(&rt, in_linear);
+    assert_equal(&rt, tally.resets(), 12);
+}
+
+/// A worker with room is made where its memory isn't refused, and keeps nothing where it is.
+#[test]
+fn a_worker_with_room_is_made_where_memory_was_refused(rt: HostRuntime) {
+    let tally = again!(new_tally(rt.alloc())).expect(&rt, "one request alone is refused");
+    let fixed = again!(fixed_of(rt.alloc(), &tally, 2)).expect(&rt, "one request alone is refused");
+    let Ok(worker) = Worker::with_room(rt.alloc(), fixed.near(), 2) else {
+        return;
+    };
+    use_worker(&rt, worker);
+    assert_equal(&rt, tally.resets(), 6);
 }
 
 /// Takes the items of the first page out for good.

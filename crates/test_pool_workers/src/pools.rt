@@ -57,6 +57,12 @@ pub fn lazy_of(alloc: Global, tally: &Arc<Tally>, items: usize) -> Result<Lazy, 
     LazyObjectPool::new(alloc, init, reset, items)
 }
 
+/// Creates a lazy pool of one item, whose `init` refuses at its first call.
+pub fn lazy_that_refuses_once(alloc: Global, tally: &Arc<Tally>) -> Result<Lazy, PullError> {
+    let (_init, reset) = parts_of(tally)?;
+    LazyObjectPool::new(alloc, TalliedValues::new_but(tally, 0)?, reset, 1)
+}
+
 /// Creates a linear pool of at most one page.
 pub fn linear_of(alloc: Global, tally: &Arc<Tally>) -> Result<Linear, PullError> {
     let (init, reset) = parts_of(tally)?;

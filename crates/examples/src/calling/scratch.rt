@@ -3,7 +3,7 @@ ghost use Rattle.std.specs.Prelude.{◌≡◌, [], IfSome};
 use lockfree_object_pool::recycling::{Pool, Recyclable};
 use std::alloc::Global;
 
-/// Words and their sum, as a worker gathers them.
+/// Words and their sum, as a thread gathers them.
 #[derive(Debug, Drop)]
 struct Scratch {
     words: Vec<u32>,
@@ -26,13 +26,13 @@ impl Recyclable for Scratch {
     }
 }
 
-/// A worker that keeps its pool.
+/// One who gathers words, and keeps its pool.
 #[derive(Debug, Drop)]
-struct Worker {
+struct Gatherer {
     pool: Pool<Scratch>,
 }
 
-impl Worker {
+impl Gatherer {
     /// Returns what a pulled value holds, which is then written.
     fn use_once(&self) -> Option<(usize, u64)>
         ensures { IfSome result (λ found. (found.0 ≡ 0) × (found.1 ≡ 0)) }

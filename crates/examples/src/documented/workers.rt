@@ -20,6 +20,24 @@ fn sum_of_turns(pool: &FixedObjectPool<u32, Zero, Zero>) -> Result<u32, PullErro
     Ok(sum)
 }
 
+/// Pulls two items at once by a worker that keeps both, and pulls them again. Returns their numbers.
+fn pull_twice(
+    alloc: Global,
+    pool: &FixedObjectPool<u32, Zero, Zero>,
+) -> Result<[usize; 4], PullError> {
+    let worker = Worker::with_room(alloc, pool.near(), 8)?;
+    let (first, second) = (worker.pull()?, worker.pull()?);
+    let before = (first.held().number(), second.held().number());
+    drop((first, second)); // it keeps both
+    let (last, other) = (worker.pull()?, worker.pull()?);
+    Ok([
+        before.0,
+        before.1,
+        last.held().number(),
+        other.held().number(),
+    ])
+}
+
 /// Returns the numbers of a worker's item in its pool, and in the page.
 fn numbers(alloc: Global) -> Result<(usize, u8), PullError> {
     let pool = LinearObjectPool::<u32, _, _>::new(alloc, Zero::new(0), Zero::new(0))?;
@@ -34,5 +52,6 @@ fn a_worker_uses_an_item_again(rt: HostRuntime) {
     let pool = FixedObjectPool::new(rt.alloc(), Zero::new(0), Zero::new(0), 8);
     let pool = pool.expect(&rt, "a pool is made");
     assert_equal(&rt, sum_of_turns(&pool), Ok(0));
+    assert_equal(&rt, pull_twice(rt.alloc(), &pool), Ok([0, 1, 1, 0]));
     assert_equal(&rt, numbers(rt.alloc()), Ok((0, 0)));
 }
