@@ -22,6 +22,8 @@ KINDS = {
 }
 # What a section may be that is neither code nor a constant: it isn't loaded, or holds the table of symbols.
 UNLOADED = {".strtab", ".symtab", ".shstrtab", ".comment", ".note.GNU-stack", ".llvm_addrsig"}
+# What unwinders read. It is no part of what is proved, and isn't compared.
+UNWINDING = ".eh_frame"
 PROGBITS, SYMTAB, RELA = 1, 2, 4
 WRITE, ALLOC, EXEC = 1, 2, 4
 
@@ -95,7 +97,7 @@ def read(path: Path) -> Object:
         if header[1] == SYMTAB:
             symbols = symbols_of(content[at], content[header[6]], names, loaded)
     for at, header in enumerate(headers):
-        if header[1] == RELA:
+        if header[1] == RELA and header[7] in loaded:
             read_relocations(content[at], symbols, loaded[header[7]], KINDS[machine])
     return Object(machine, list(loaded.values()))
 
@@ -103,7 +105,7 @@ def read(path: Path) -> Object:
 def section_of(name: str, header: tuple, content: bytes) -> Section | None:
     """The section, if it is loaded."""
     kind, flags = header[1], header[2]
-    if header[5] == 0:
+    if header[5] == 0 or name == UNWINDING:
         return None
     if not flags & ALLOC:
         if name not in UNLOADED and kind != RELA:

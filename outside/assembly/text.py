@@ -6,6 +6,7 @@ from dataclasses import dataclass
 from pathlib import Path
 
 from object_file import AARCH64, CALL, X86_64, Object, Relocation, Section, Unknown
+from unwind import with_unwinding
 
 # The names by which the checker's code asks for memory.
 MEMORY = {"rattle_alloc": "alloc", "rattle_realloc": "realloc", "rattle_dealloc": "dealloc"}
@@ -110,11 +111,12 @@ class Text:
         if section.symbols[0].is_global:
             lines += [f"\t.globl {name}", f"\t.hidden {name}"]
         lines += [f"\t.type {name}, %function", f"{name}:"]
+        code = []
         for one in instructions:
             if one.at in targets:
-                lines.append(f"{targets[one.at]}:")
-            lines.append("\t" + self.instruction(section, one, targets, as_bytes))
-        return lines + [f"\t.size {name}, . - {name}"]
+                code.append(f"{targets[one.at]}:")
+            code.append("\t" + self.instruction(section, one, targets, as_bytes))
+        return [*lines, *with_unwinding(self.code.machine, code), f"\t.size {name}, . - {name}"]
 
     def targets(self, section: str, short: str) -> dict[int, str]:
         """A label of each instruction to which one of the function jumps."""

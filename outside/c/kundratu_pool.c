@@ -5,21 +5,33 @@
  */
 #define _POSIX_C_SOURCE 200809L
 #include "kundratu_pool.h"
-#include <signal.h>
 #include <stdatomic.h>
 #include <stdio.h>
 #include <stdlib.h>
+#if defined(_WIN32)
+#include <io.h>
+#include <windows.h>
+#else
+#include <signal.h>
 #include <string.h>
 #include <unistd.h>
+#endif
 
 #undef kdr_place_return
 
 /* Each file of the library sees these, and no other does. */
+#if defined(_WIN32)
+#define INSIDE
+#else
 #define INSIDE __attribute__((visibility("hidden")))
+#endif
 
-INSIDE kdr_status kdr_handle_new(size_t items, size_t tag, kdr_handle *out);
-INSIDE kdr_status kdr_handle_share(kdr_handle *handle, kdr_handle *out);
-INSIDE size_t kdr_handle_items(kdr_handle *handle);
+/* What the proved code calls, and what of it is called here. These names carry the version. */
+#define PROVED(name) kdr_0_1_0_##name
+
+INSIDE kdr_status KDR_CALL PROVED(handle_new)(size_t items, size_t tag, kdr_handle *out);
+INSIDE kdr_status KDR_CALL PROVED(handle_share)(kdr_handle *handle, kdr_handle *out);
+INSIDE size_t KDR_CALL PROVED(handle_items)(kdr_handle *handle);
 
 /* Whether there was memory, and where. The proofs count on an address that isn't null, also if there
    was none. */
@@ -30,33 +42,33 @@ struct got {
 
 static char nothing;
 
-INSIDE struct got kdr_alloc(size_t size, size_t align);
-INSIDE struct got kdr_realloc(void *at, size_t old, size_t size, size_t align);
-INSIDE void kdr_dealloc(void *at);
+INSIDE struct got KDR_CALL PROVED(alloc)(size_t size, size_t align);
+INSIDE struct got KDR_CALL PROVED(realloc)(void *at, size_t old, size_t size, size_t align);
+INSIDE void KDR_CALL PROVED(dealloc)(void *at);
 
 static struct got got(void *at) {
     return (struct got){at != NULL, at ? at : &nothing};
 }
 
 /* A block of no bytes has an address too. */
-struct got kdr_alloc(size_t size, size_t align) {
+struct got KDR_CALL PROVED(alloc)(size_t size, size_t align) {
     return got(malloc(size ? size : align));
 }
 
-struct got kdr_realloc(void *at, size_t old, size_t size, size_t align) {
+struct got KDR_CALL PROVED(realloc)(void *at, size_t old, size_t size, size_t align) {
     (void)old;
     return got(realloc(at, size ? size : align));
 }
 
-void kdr_dealloc(void *at) {
+void KDR_CALL PROVED(dealloc)(void *at) {
     free(at);
 }
 
-const char *kdr_version(void) {
+const char *KDR_CALL kdr_version(void) {
     return KDR_VERSION;
 }
 
-const char *kdr_status_name(kdr_status status) {
+const char *KDR_CALL kdr_status_name(kdr_status status) {
     static const char *const names[] = {
         "KDR_DONE",     "KDR_ALL_IN_USE", "KDR_HOLDS_ONE", "KDR_HOLDS_NONE", "KDR_NO_POOL",
         "KDR_HAS_POOL", "KDR_NO_PLACES",  "KDR_NO_MEMORY", "KDR_OTHER_POOL", "KDR_NO_SUCH_PLACE",
@@ -65,21 +77,21 @@ const char *kdr_status_name(kdr_status status) {
 }
 
 /* Each pool has a tag of its own, which isn't 0. */
-kdr_status kdr_pool_new(size_t items, kdr_handle *out) {
+kdr_status KDR_CALL kdr_pool_new(size_t items, kdr_handle *out) {
     static atomic_size_t pools;
-    return kdr_handle_new(items, atomic_fetch_add_explicit(&pools, 1, memory_order_relaxed) + 1, out);
+    return PROVED(handle_new)(items, atomic_fetch_add_explicit(&pools, 1, memory_order_relaxed) + 1, out);
 }
 
 /* While a call runs, it takes its handle apart. So these two move it to where they may write, and
    leave the caller's as it is. */
-kdr_status kdr_pool_share(const kdr_handle *handle, kdr_handle *out) {
+kdr_status KDR_CALL kdr_pool_share(const kdr_handle *handle, kdr_handle *out) {
     kdr_handle moved = *handle;
-    return kdr_handle_share(&moved, out);
+    return PROVED(handle_share)(&moved, out);
 }
 
-size_t kdr_pool_items(const kdr_handle *handle) {
+size_t KDR_CALL kdr_pool_items(const kdr_handle *handle) {
     kdr_handle moved = *handle;
-    return kdr_handle_items(&moved);
+    return PROVED(handle_items)(&moved);
 }
 
 /* What this thread returns meanwhile, for the message. */
@@ -89,38 +101,60 @@ static _Thread_local struct {
     size_t number;
 } returning;
 
-/* The proved code ends the program where a place is free that is returned. */
-static void say_and_abort(int sent) {
+/* Says which return it was, and aborts. */
+static void say_and_abort(void) {
     char said[512];
-    signal(sent, SIG_DFL);
-    if (returning.file == NULL) {
-        raise(sent);
-        return;
-    }
     int length = snprintf(said, sizeof said, "%s:%d: kdr_place_return: place %zu is free: it was copied, and returned before\n",
                           returning.file, returning.line, returning.number);
-    size_t rest = length < 0 ? 0 : (size_t)length < sizeof said ? (size_t)length : sizeof said - 1;
+    unsigned rest = length < 0 ? 0 : (unsigned)length < sizeof said ? (unsigned)length : sizeof said - 1;
     if (write(STDERR_FILENO, said, rest) < 0) {
         abort();
     }
     abort();
 }
 
+/* The proved code ends the program where a place is free that is returned. What the program itself does then comes first. */
+#if defined(_WIN32)
+static LONG CALLBACK end_by_exception(EXCEPTION_POINTERS *what) {
+    if (what->ExceptionRecord->ExceptionCode == EXCEPTION_ILLEGAL_INSTRUCTION && returning.file != NULL) {
+        say_and_abort();
+    }
+    return EXCEPTION_CONTINUE_SEARCH;
+}
+
+static void listen_to_ends(void) {
+    AddVectoredExceptionHandler(0, end_by_exception);
+}
+#else
+static void end_by_signal(int sent) {
+    signal(sent, SIG_DFL);
+    if (returning.file == NULL) {
+        raise(sent);
+        return;
+    }
+    say_and_abort();
+}
+
 /* Signals for which the program has a handler of its own are left to it. */
 static void listen(int sent) {
     struct sigaction now, ours;
     memset(&ours, 0, sizeof ours);
-    ours.sa_handler = say_and_abort;
+    ours.sa_handler = end_by_signal;
     if (sigaction(sent, NULL, &now) == 0 && now.sa_handler == SIG_DFL) {
         sigaction(sent, &ours, NULL);
     }
 }
 
-kdr_status kdr_debug_place_return(kdr_handle *handle, kdr_place *place, const char *file, int line) {
+static void listen_to_ends(void) {
+    listen(SIGILL);
+    listen(SIGTRAP);
+}
+#endif
+
+kdr_status KDR_CALL kdr_debug_place_return(kdr_handle *handle, kdr_place *place, const char *file, int line) {
     static atomic_flag listens = ATOMIC_FLAG_INIT;
     if (!atomic_flag_test_and_set(&listens)) {
-        listen(SIGILL);
-        listen(SIGTRAP);
+        listen_to_ends();
     }
     returning.number = kdr_place_number(place);
     returning.line = line;

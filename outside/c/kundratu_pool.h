@@ -1,8 +1,8 @@
 /*
  * SPDX-License-Identifier: BSL-1.0
  *
- * Kundratu's pool of places for C and C++: a fixed number of places, which threads take and return
- * without a lock.
+ * Kundratu's pool of places for C (C99 and later) and C++ (C++98 and later): a fixed number of
+ * places, which threads take and return without a lock.
  */
 /**
  * @file kundratu_pool.h
@@ -63,6 +63,14 @@
  * this header is included, it says where and aborts. If somebody else holds the place by then, the
  * second return is done: the place is free while it is held.
  *
+ * These mistakes have no answer that one can count on:
+ *
+ * - Two threads use one handle at once. Calls may return KDR_NO_POOL, and the handle may be empty
+ *   from then on for both. The pool isn't freed then, and nothing says so.
+ * - A handle is copied. Both may be used by turns until one is closed; then the other is invalid.
+ * - The bytes of a handle are made up, or a pointer is null. The program reads or writes memory
+ *   that isn't the library's.
+ *
  * ThreadSanitizer doesn't see the library's atomic steps. If a program is built with it, tell it
  * their order:
  *
@@ -76,6 +84,14 @@
 
 #include <stddef.h>
 #include <stdint.h>
+
+#if !defined(__x86_64__) && !defined(__aarch64__)
+#error "kundratu_pool has code for x86-64 and AArch64 alone, and for no other processor"
+#elif SIZE_MAX != UINT64_MAX
+#error "kundratu_pool has code for pointers of 64 bits alone"
+#elif defined(__APPLE__) && defined(__aarch64__)
+#error "kundratu_pool uses register x18, which this system keeps for itself"
+#endif
 
 #ifdef __cplusplus
 extern "C" {
@@ -99,6 +115,13 @@ extern "C" {
 #define KDR_NODISCARD __attribute__((warn_unused_result))
 #else
 #define KDR_NODISCARD
+#endif
+
+/** By which convention the calls are made: that of Linux, on each system. */
+#if defined(_WIN32)
+#define KDR_CALL __attribute__((sysv_abi))
+#else
+#define KDR_CALL
 #endif
 
 /** What a call returns. kdr_status_name() names it. */
@@ -149,20 +172,23 @@ static inline size_t kdr_place_number(const kdr_place *place) {
 }
 
 /** Returns the version of the library, such as "0.1.0". */
-const char *kdr_version(void);
+const char *KDR_CALL kdr_version(void);
 
 /** Returns the name of a status, such as "KDR_DONE", or "unknown" if it is none. */
-const char *kdr_status_name(kdr_status status);
+const char *KDR_CALL kdr_status_name(kdr_status status);
 
 /**
  * Creates a pool of so many free places.
+ *
+ * A pool keeps 1.25 bytes for each place, and takes up to 2.5 while it is created. For 2^28 places
+ * that took 641 MB and 1.5 s.
  *
  * @param items the number of places. They are numbered from 0.
  * @param out   an empty handle, which becomes the first handle of the pool. It holds no place.
  * @return KDR_DONE; KDR_NO_PLACES if items is 0; KDR_NO_MEMORY; KDR_HAS_POOL if out isn't empty.
  *         After a failure out is as before, and nothing is kept.
  */
-KDR_NODISCARD kdr_status kdr_pool_new(size_t items, kdr_handle *out) KDR_NONNULL;
+KDR_NODISCARD kdr_status KDR_CALL kdr_pool_new(size_t items, kdr_handle *out) KDR_NONNULL;
 
 /**
  * Creates a further handle of the same pool.
@@ -174,7 +200,8 @@ KDR_NODISCARD kdr_status kdr_pool_new(size_t items, kdr_handle *out) KDR_NONNULL
  * @param out    an empty handle, which becomes a handle of the pool. It holds no place.
  * @return KDR_DONE; KDR_NO_POOL if handle is empty; KDR_NO_MEMORY; KDR_HAS_POOL if out isn't empty.
  */
-KDR_NODISCARD kdr_status kdr_pool_share(const kdr_handle *handle, kdr_handle *out) KDR_NONNULL;
+KDR_NODISCARD kdr_status KDR_CALL kdr_pool_share(const kdr_handle *handle, kdr_handle *out)
+    KDR_NONNULL;
 
 /**
  * Pulls a free place, which the handle holds from then on.
@@ -188,7 +215,7 @@ KDR_NODISCARD kdr_status kdr_pool_share(const kdr_handle *handle, kdr_handle *ou
  * @return KDR_DONE; KDR_ALL_IN_USE if all places were in use at one moment of the call (or 2^32
  *         places and more were returned during it); KDR_HOLDS_ONE; KDR_NO_POOL.
  */
-KDR_NODISCARD kdr_status kdr_pool_pull(kdr_handle *handle, size_t *number) KDR_NONNULL;
+KDR_NODISCARD kdr_status KDR_CALL kdr_pool_pull(kdr_handle *handle, size_t *number) KDR_NONNULL;
 
 /**
  * Pulls a place as kdr_pool_pull() does, but looks at this page first.
@@ -196,15 +223,15 @@ KDR_NODISCARD kdr_status kdr_pool_pull(kdr_handle *handle, size_t *number) KDR_N
  * @param page the number of a page of KDR_PAGE_PLACES places. Pages are counted round and round, so
  *             any number will do.
  */
-KDR_NODISCARD kdr_status kdr_pool_pull_near(kdr_handle *handle, size_t page, size_t *number)
-    KDR_NONNULL;
+KDR_NODISCARD kdr_status KDR_CALL kdr_pool_pull_near(kdr_handle *handle, size_t page,
+                                                    size_t *number) KDR_NONNULL;
 
 /**
  * Returns the place that the handle holds. Others may hold it from then on.
  *
  * @return KDR_DONE; KDR_HOLDS_NONE if the handle holds no place; KDR_NO_POOL.
  */
-kdr_status kdr_pool_return(kdr_handle *handle) KDR_NONNULL;
+kdr_status KDR_CALL kdr_pool_return(kdr_handle *handle) KDR_NONNULL;
 
 /**
  * Pulls a free place by itself, as kdr_pool_pull() does. The handle stays as it is, whether it
@@ -216,7 +243,7 @@ kdr_status kdr_pool_return(kdr_handle *handle) KDR_NONNULL;
  * @return KDR_DONE; KDR_ALL_IN_USE as kdr_pool_pull(); KDR_HOLDS_ONE if the place isn't empty;
  *         KDR_NO_POOL.
  */
-KDR_NODISCARD kdr_status kdr_place_pull(kdr_handle *handle, size_t page, kdr_place *place)
+KDR_NODISCARD kdr_status KDR_CALL kdr_place_pull(kdr_handle *handle, size_t page, kdr_place *place)
     KDR_NONNULL;
 
 /**
@@ -226,10 +253,10 @@ KDR_NODISCARD kdr_status kdr_place_pull(kdr_handle *handle, size_t page, kdr_pla
  * @return KDR_DONE; KDR_HOLDS_NONE if the place is empty; KDR_OTHER_POOL; KDR_NO_SUCH_PLACE;
  *         KDR_NO_POOL. After a failure the place is as before.
  */
-kdr_status kdr_place_return(kdr_handle *handle, kdr_place *place) KDR_NONNULL;
+kdr_status KDR_CALL kdr_place_return(kdr_handle *handle, kdr_place *place) KDR_NONNULL;
 
 /** Returns how many places the handle's pool has, or 0 if the handle is empty. */
-size_t kdr_pool_items(const kdr_handle *handle) KDR_NONNULL;
+size_t KDR_CALL kdr_pool_items(const kdr_handle *handle) KDR_NONNULL;
 
 /**
  * Closes the handle, which is empty from then on. A place that it holds is returned. The pool ends
@@ -237,11 +264,11 @@ size_t kdr_pool_items(const kdr_handle *handle) KDR_NONNULL;
  *
  * @return KDR_DONE; KDR_NO_POOL if the handle is empty.
  */
-kdr_status kdr_pool_drop(kdr_handle *handle) KDR_NONNULL;
+kdr_status KDR_CALL kdr_pool_drop(kdr_handle *handle) KDR_NONNULL;
 
 /** Returns a place as kdr_place_return() does. KDR_DEBUG puts it in the place of that call. */
-kdr_status kdr_debug_place_return(kdr_handle *handle, kdr_place *place, const char *file, int line)
-    KDR_NONNULL;
+kdr_status KDR_CALL kdr_debug_place_return(kdr_handle *handle, kdr_place *place, const char *file,
+                                           int line) KDR_NONNULL;
 
 #ifdef KDR_DEBUG
 #define kdr_place_return(handle, place) \

@@ -40,7 +40,7 @@ void __wrap_free(void *block) {
     __real_free(block);
 }
 
-enum { ITEMS = 100, MANY = 1000000 };
+enum { ITEMS = 100, MANY = 1000000, FEW_BYTES = 20000 };
 
 static int faults;
 
@@ -68,6 +68,8 @@ static void make_once(void) {
     size_t meanwhile = given_back;
     check(kdr_pool_drop(&one) == KDR_DONE && held == 0, "a great pool left memory behind");
     check(meanwhile < 2 * (given_back - meanwhile), "a pool was made twice");
+    check(given_back - meanwhile <= MANY / 4 * 5 + FEW_BYTES, "a pool keeps more than 1.25 bytes a place");
+    check(given_back <= MANY / 2 * 5 + FEW_BYTES, "a pool needs more than 2.5 bytes a place while it is created");
 }
 
 static void refuse_new(long requests) {

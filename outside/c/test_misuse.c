@@ -8,8 +8,10 @@
 #include <stdio.h>
 #include <stdlib.h>
 #include <string.h>
+#if !defined(_WIN32)
 #include <sys/wait.h>
 #include <unistd.h>
+#endif
 
 enum { ITEMS = 40, FEW = 2 };
 
@@ -125,25 +127,48 @@ static void take_another_pool(void) {
     end_pool(&few, FEW);
 }
 
-/* Returns a place twice by a copy, in a child. How it ended, and what it wrote. */
-static int return_a_copy(bool debug, char *said, size_t room) {
+/* Returns a place twice by a copy. It doesn't come back. */
+static void return_a_copy(bool debug) {
+    kdr_handle first = new_pool(ITEMS);
+    kdr_place held = pull(&first), copy = held;
+    check(kdr_place_return(&first, &held) == KDR_DONE, "a place wasn't returned");
+    if (debug) {
+        (void)kdr_debug_place_return(&first, &copy, "file.c", 12);
+    } else {
+        (void)kdr_place_return(&first, &copy);
+    }
+}
+
+/* How a program ends: by the processor's refusal, or by abort. */
+enum end { BY_REFUSAL, BY_ABORT, OTHERWISE };
+
+#if defined(_WIN32)
+static const char *program;
+
+static enum end end_of_a_copy(bool debug, char *said, size_t room) {
+    char command[1024];
+    snprintf(command, sizeof command, "\"%s\" %s 2>said.txt", program, debug ? "debug" : "plain");
+    fflush(stdout);
+    unsigned status = (unsigned)system(command);
+    FILE *file = fopen("said.txt", "r");
+    check(file != NULL, "no file");
+    said[fread(said, 1, room - 1, file)] = 0;
+    fclose(file);
+    remove("said.txt");
+    return status == 0xC000001D ? BY_REFUSAL : status == 3 ? BY_ABORT : OTHERWISE;
+}
+#else
+static enum end end_of_a_copy(bool debug, char *said, size_t room) {
     int ends[2];
     check(pipe(ends) == 0, "no pipe");
     fflush(stdout);
     pid_t child = fork();
     check(child >= 0, "no child");
     if (child == 0) {
-        kdr_handle first = new_pool(ITEMS);
-        kdr_place held = pull(&first), copy = held;
         dup2(ends[1], STDERR_FILENO);
         signal(SIGILL, SIG_DFL);
         signal(SIGTRAP, SIG_DFL);
-        check(kdr_place_return(&first, &held) == KDR_DONE, "a place wasn't returned");
-        if (debug) {
-            (void)kdr_debug_place_return(&first, &copy, "file.c", 12);
-        } else {
-            (void)kdr_place_return(&first, &copy);
-        }
+        return_a_copy(debug);
         _exit(0);
     }
     int status = 0;
@@ -152,21 +177,36 @@ static int return_a_copy(bool debug, char *said, size_t room) {
     ssize_t length = read(ends[0], said, room - 1);
     close(ends[0]);
     said[length > 0 ? length : 0] = 0;
-    return status;
+    int sent = WIFSIGNALED(status) ? WTERMSIG(status) : 0;
+    return sent == SIGILL || sent == SIGTRAP ? BY_REFUSAL : sent == SIGABRT ? BY_ABORT : OTHERWISE;
 }
+#endif
 
 /* It ends the program. With the header's debug build it says where. */
 static void copy_a_place(void) {
     char said[256];
-    int status = return_a_copy(false, said, sizeof said);
-    check(WIFSIGNALED(status) && (WTERMSIG(status) == SIGILL || WTERMSIG(status) == SIGTRAP), "a copied place was returned twice");
-    status = return_a_copy(true, said, sizeof said);
-    check(WIFSIGNALED(status) && WTERMSIG(status) == SIGABRT, "a copied place was returned twice, and nothing aborted");
+    check(end_of_a_copy(false, said, sizeof said) == BY_REFUSAL, "a copied place was returned twice");
+    check(end_of_a_copy(true, said, sizeof said) == BY_ABORT, "a copied place was returned twice, and nothing aborted");
     check(strstr(said, "file.c:12: kdr_place_return: place ") && strstr(said, "is free"), "nothing was said of a copied place");
 }
 
-int main(void) {
+/* The version is one, in numbers and as a string, in the header and in the library. */
+static void compare_versions(void) {
+    char version[32];
+    snprintf(version, sizeof version, "%d.%d.%d", KDR_VERSION_MAJOR, KDR_VERSION_MINOR, KDR_VERSION_PATCH);
+    check(strcmp(version, KDR_VERSION) == 0, "the header's version in numbers is another one than as a string");
     check(strcmp(kdr_version(), KDR_VERSION) == 0, "the header is of another version than the library");
+}
+
+int main(int count, char **words) {
+    if (count > 1) {
+        return_a_copy(strcmp(words[1], "debug") == 0);
+        return 0;
+    }
+#if defined(_WIN32)
+    program = words[0];
+#endif
+    compare_versions();
     check(strcmp(kdr_status_name(KDR_NO_SUCH_PLACE), "KDR_NO_SUCH_PLACE") == 0 && strcmp(kdr_status_name(10), "unknown") == 0,
           "a status has another name");
     make_places_up();

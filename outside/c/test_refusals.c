@@ -22,10 +22,10 @@ static void check(bool holds, const char *what) {
     }
 }
 
-static long nanoseconds(void) {
+static long long nanoseconds(void) {
     struct timespec now;
     clock_gettime(CLOCK_MONOTONIC, &now);
-    return now.tv_sec * 1000000000L + now.tv_nsec;
+    return (long long)now.tv_sec * 1000000000 + now.tv_nsec;
 }
 
 /* Holds all places, the last one by the last handle. A further handle holds none. */
@@ -57,12 +57,12 @@ static void pull_last(kdr_handle *spare) {
 }
 
 /* The least time of a call. */
-static long least(void (*call)(kdr_handle *), kdr_handle *spare) {
-    long least = -1;
+static long long least(void (*call)(kdr_handle *), kdr_handle *spare) {
+    long long least = -1;
     for (int round = 0; round < ROUNDS; round++) {
-        long begun = nanoseconds();
+        long long begun = nanoseconds();
         call(spare);
-        long time = nanoseconds() - begun;
+        long long time = nanoseconds() - begun;
         least = least < 0 || time < least ? time : least;
         kdr_pool_return(spare);
     }
@@ -72,10 +72,10 @@ static long least(void (*call)(kdr_handle *), kdr_handle *spare) {
 static void refuse_while_all_are_held(void) {
     kdr_handle spare = KDR_HANDLE_EMPTY;
     hold_all(&spare);
-    long refused = least(refuse, &spare), pass = least(read_words, &spare);
+    long long refused = least(refuse, &spare), pass = least(read_words, &spare);
     check(kdr_pool_return(&holders[PLACES - 1]) == KDR_DONE, "a place wasn't returned");
-    long last = least(pull_last, &spare);
-    printf("%d places: refused in %ld ns, the last free one pulled in %ld, a pass over %d words in %ld\n", PLACES, refused, last, PAGES, pass);
+    long long last = least(pull_last, &spare);
+    printf("%d places: refused in %lld ns, the last free one pulled in %lld, a pass over %d words in %lld\n", PLACES, refused, last, PAGES, pass);
     kdr_pool_drop(&spare);
     for (size_t at = 0; at < PLACES; at++) {
         kdr_pool_drop(&holders[at]);

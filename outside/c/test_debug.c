@@ -1,0 +1,201 @@
+/* What KDR_DEBUG makes of kdr_place_return(). Its answers are the same. Where a place is free that is returned, the program says of
+   which thread's return, and aborts. Other ends of the program, and handlers of its own, are left as they are. */
+#define KDR_DEBUG
+#include "kundratu_pool.h"
+#include <pthread.h>
+#include <signal.h>
+#include <stdatomic.h>
+#include <stdbool.h>
+#include <stdio.h>
+#include <stdlib.h>
+#include <string.h>
+#include <sys/wait.h>
+#include <unistd.h>
+
+enum { ITEMS = 40, SECONDS = 20, OWN_END = 7, GOOD_RETURNS = 1000, THREADS = 3, ROUNDS = 200 };
+
+static const char *doing = "";
+static size_t said_length;
+
+static void check(bool holds, const char *what) {
+    if (!holds) {
+        printf("%s: %s\n", doing, what);
+        fflush(stdout);
+        _exit(1);
+    }
+}
+
+static kdr_handle new_pool(void) {
+    kdr_handle first = KDR_HANDLE_EMPTY;
+    check(kdr_pool_new(ITEMS, &first) == KDR_DONE, "no pool");
+    return first;
+}
+
+static kdr_place pull(kdr_handle *handle) {
+    kdr_place place = KDR_PLACE_EMPTY;
+    check(kdr_place_pull(handle, 0, &place) == KDR_DONE, "no place");
+    return place;
+}
+
+/* How a child ends that makes this call, and what it says. */
+static int end_of(void (*call)(void), char *said, size_t room) {
+    int ends[2], status = 0;
+    size_t length = 0;
+    check(pipe(ends) == 0, "no pipe");
+    pid_t child = fork();
+    check(child >= 0, "no child");
+    if (child == 0) {
+        dup2(ends[1], STDERR_FILENO);
+        alarm(SECONDS);
+        call();
+        _exit(0);
+    }
+    close(ends[1]);
+    for (ssize_t more; (more = read(ends[0], said + length, room - 1 - length)) > 0;) {
+        length += (size_t)more;
+    }
+    said[length] = 0;
+    said_length = length;
+    close(ends[0]);
+    check(waitpid(child, &status, 0) == child, "no child ended");
+    return status;
+}
+
+static bool is_ended_by(int status, int sent) {
+    return WIFSIGNALED(status) && WTERMSIG(status) == sent;
+}
+
+/* Returns a place that is free, after one with another number was returned well. From here on this file has another name. */
+#line 100 "short.c"
+static void return_a_copy(void) {
+    kdr_handle first = new_pool();
+    kdr_place one = pull(&first), other = pull(&first), copy = other;
+    kdr_place_return(&first, &one);
+    kdr_place_return(&first, &other);
+    kdr_place_return(&first, &copy); /* line 105 */
+}
+
+static void name_the_return(void) {
+    char said[1024];
+    doing = "a copied place";
+    check(is_ended_by(end_of(return_a_copy, said, sizeof said), SIGABRT), "no abort");
+    check(strcmp(said, "short.c:105: kdr_place_return: place 1 is free: it was copied, and returned before\n") == 0, said);
+}
+
+/* A long name of a file is cut, and nothing behind it is shown. */
+static void return_in_a_long_file(void) {
+    char name[2048];
+    memset(name, 'x', sizeof name - 1);
+    name[sizeof name - 1] = 0;
+    kdr_handle first = new_pool();
+    kdr_place held = pull(&first), copy = held;
+    kdr_place_return(&first, &held);
+    (void)kdr_debug_place_return(&first, &copy, name, 1);
+}
+
+static void cut_the_message(void) {
+    char said[4096];
+    doing = "a long name of a file";
+    check(is_ended_by(end_of(return_in_a_long_file, said, sizeof said), SIGABRT), "no abort");
+    check(said_length == 511 && strspn(said, "x") == 511, "the message isn't cut where it is full");
+}
+
+/* While other threads return places well. */
+static atomic_bool is_running;
+
+static void *return_well(void *unused) {
+    kdr_handle first = new_pool();
+    for (int turn = 0;; turn++) {
+        kdr_place held = pull(&first);
+        kdr_place_return(&first, &held);
+        atomic_store(&is_running, turn > GOOD_RETURNS);
+    }
+    return unused;
+}
+
+static void return_a_copy_beside(void) {
+    for (int number = 0; number < THREADS; number++) {
+        pthread_t thread;
+        check(pthread_create(&thread, NULL, return_well, NULL) == 0, "no thread");
+    }
+    while (!atomic_load(&is_running)) {
+    }
+    return_a_copy();
+}
+
+static void name_the_threads_return(void) {
+    char said[1024];
+    doing = "a copied place beside other threads";
+    for (int round = 0; round < ROUNDS; round++) {
+        check(is_ended_by(end_of(return_a_copy_beside, said, sizeof said), SIGABRT), "no abort");
+        check(strncmp(said, "short.c:105: kdr_place_return: place 1 is", 41) == 0, said);
+    }
+}
+
+/* Another end of the program than by a return, after one. */
+static void refuse_elsewhere(void) {
+    kdr_handle first = new_pool();
+    kdr_place held = pull(&first);
+    kdr_place_return(&first, &held);
+    raise(SIGILL);
+}
+
+static void leave_other_ends(void) {
+    char said[1024];
+    doing = "a signal beside returns";
+    check(is_ended_by(end_of(refuse_elsewhere, said, sizeof said), SIGILL), "the program doesn't end by it");
+    check(said[0] == 0, said);
+}
+
+static void end_by_own_handler(int sent) {
+    (void)sent;
+    _exit(OWN_END);
+}
+
+static void return_a_copy_with_a_handler(void) {
+    signal(SIGILL, end_by_own_handler);
+    signal(SIGTRAP, end_by_own_handler);
+    return_a_copy();
+}
+
+static void leave_own_handlers(void) {
+    char said[1024];
+    doing = "a handler of the program's own";
+    int status = end_of(return_a_copy_with_a_handler, said, sizeof said);
+    check(WIFEXITED(status) && WEXITSTATUS(status) == OWN_END && said[0] == 0, "it isn't called");
+}
+
+/* Each answer of a return, by this handle and of this place. */
+static void answer_alike(kdr_handle *handle, kdr_place place, kdr_status wanted) {
+    kdr_place other = place;
+    kdr_status plain = (kdr_place_return)(handle, &place);
+    kdr_status debug = kdr_place_return(handle, &other);
+    check(plain == wanted && debug == wanted, kdr_status_name(debug));
+    check(kdr_place_number(&place) == kdr_place_number(&other), "it changes the place otherwise");
+}
+
+static void compare_answers(void) {
+    doing = "an answer";
+    kdr_handle first = new_pool(), none = KDR_HANDLE_EMPTY, another = new_pool();
+    kdr_place held = pull(&first), empty = KDR_PLACE_EMPTY, past = held;
+    past.after = ITEMS + 1;
+    answer_alike(&first, empty, KDR_HOLDS_NONE);
+    answer_alike(&none, empty, KDR_NO_POOL);
+    answer_alike(&none, held, KDR_NO_POOL);
+    answer_alike(&another, held, KDR_OTHER_POOL);
+    answer_alike(&first, past, KDR_NO_SUCH_PLACE);
+    check(kdr_place_return(&first, &held) == KDR_DONE && kdr_place_number(&held) == KDR_NO_PLACE, "a place isn't returned");
+    check(kdr_pool_drop(&first) == KDR_DONE && kdr_pool_drop(&another) == KDR_DONE, "a handle isn't dropped");
+}
+
+/* The children come first: in each of them a return is the program's first one. */
+int main(void) {
+    name_the_return();
+    cut_the_message();
+    name_the_threads_return();
+    leave_other_ends();
+    leave_own_handlers();
+    compare_answers();
+    puts("each return that went wrong was named");
+    return 0;
+}
