@@ -9,15 +9,21 @@
 	.p2align 2
 	.type kdr_0_1_0_grow_amortized, %function
 kdr_0_1_0_grow_amortized:
+	.cfi_startproc
 	ldr	x1, [x0, #8]
 	cmn	x1, #1
 	b.eq	.L0_1_0_grow_amortized_2
 	stp	x29, x30, [sp, #-32]!
+	.cfi_def_cfa_offset 32
+	.cfi_offset x30, -24
+	.cfi_offset x29, -32
 	ldr	x9, [x0, #16]
 	cmp	x1, #7
 	mov	w8, #7
 	csel	x10, x1, x8, hi
 	stp	x20, x19, [sp, #16]
+	.cfi_offset x19, -8
+	.cfi_offset x20, -16
 	mov	x29, sp
 	lsl	x8, x9, #1
 	add	x11, x10, #1
@@ -39,11 +45,21 @@ kdr_0_1_0_grow_amortized:
 	str	x1, [x20]
 	str	x19, [x20, #16]
 	ldp	x20, x19, [sp, #16]
+	.cfi_restore x20
+	.cfi_restore x19
 	ldp	x29, x30, [sp], #32
+	.cfi_def_cfa_offset 0
+	.cfi_restore x29
+	.cfi_restore x30
 	ret
 .L0_1_0_grow_amortized_2:
 	mov	w0, wzr
 	ret
+	.cfi_def_cfa_offset 32
+	.cfi_offset x19, -8
+	.cfi_offset x20, -16
+	.cfi_offset x30, -24
+	.cfi_offset x29, -32
 .L0_1_0_grow_amortized_3:
 	mov	x20, x0
 	mov	x0, x8
@@ -53,8 +69,14 @@ kdr_0_1_0_grow_amortized:
 .L0_1_0_grow_amortized_4:
 	mov	w0, wzr
 	ldp	x20, x19, [sp, #16]
+	.cfi_restore x20
+	.cfi_restore x19
 	ldp	x29, x30, [sp], #32
+	.cfi_def_cfa_offset 0
+	.cfi_restore x29
+	.cfi_restore x30
 	ret
+	.cfi_endproc
 	.size kdr_0_1_0_grow_amortized, . - kdr_0_1_0_grow_amortized
 
 // constants
@@ -76,13 +98,22 @@ kdr_0_1_0_grow_amortized:
 	.p2align 2
 	.type kdr_0_1_0_open, %function
 kdr_0_1_0_open:
+	.cfi_startproc
 	stp	x29, x30, [sp, #-64]!
+	.cfi_def_cfa_offset 64
+	.cfi_offset x30, -56
+	.cfi_offset x29, -64
 	str	x23, [sp, #16]
+	.cfi_offset x23, -48
 	add	x8, x2, #8
 	mov	x29, sp
 	stp	x22, x21, [sp, #32]
+	.cfi_offset x21, -24
+	.cfi_offset x22, -32
 	mov	x21, x1
 	stp	x20, x19, [sp, #48]
+	.cfi_offset x19, -8
+	.cfi_offset x20, -16
 	mov	x20, x2
 	mov	x19, x0
 .L0_1_0_open_1:
@@ -116,10 +147,26 @@ kdr_0_1_0_open:
 	stur	q0, [x1, #24]
 	str	x8, [x1]
 	ldp	x20, x19, [sp, #48]
+	.cfi_restore x20
+	.cfi_restore x19
 	ldr	x23, [sp, #16]
+	.cfi_restore x23
 	ldp	x22, x21, [sp, #32]
+	.cfi_restore x22
+	.cfi_restore x21
 	ldp	x29, x30, [sp], #64
+	.cfi_def_cfa_offset 0
+	.cfi_restore x29
+	.cfi_restore x30
 	ret
+	.cfi_def_cfa_offset 64
+	.cfi_offset x19, -8
+	.cfi_offset x20, -16
+	.cfi_offset x21, -24
+	.cfi_offset x22, -32
+	.cfi_offset x23, -48
+	.cfi_offset x30, -56
+	.cfi_offset x29, -64
 .L0_1_0_open_2:
 	ldaxr	x8, [x20]
 	subs	x8, x8, #1
@@ -147,10 +194,19 @@ kdr_0_1_0_open:
 	mov	x1, xzr
 	mov	w0, wzr
 	ldp	x20, x19, [sp, #48]
+	.cfi_restore x20
+	.cfi_restore x19
 	ldr	x23, [sp, #16]
+	.cfi_restore x23
 	ldp	x22, x21, [sp, #32]
+	.cfi_restore x22
+	.cfi_restore x21
 	ldp	x29, x30, [sp], #64
+	.cfi_def_cfa_offset 0
+	.cfi_restore x29
+	.cfi_restore x30
 	ret
+	.cfi_endproc
 	.size kdr_0_1_0_open, . - kdr_0_1_0_open
 
 // fixed_pools::fixed_object_pool::items::FixedItems::take_further
@@ -158,8 +214,13 @@ kdr_0_1_0_open:
 	.p2align 2
 	.type kdr_0_1_0_take_further, %function
 kdr_0_1_0_take_further:
+	.cfi_startproc
 	str	x21, [sp, #-32]!
+	.cfi_def_cfa_offset 32
+	.cfi_offset x21, -32
 	stp	x20, x19, [sp, #16]
+	.cfi_offset x19, -8
+	.cfi_offset x20, -16
 	add	x8, x1, #88
 	ldar	x8, [x8]
 	ldr	x9, [x1, #72]
@@ -432,8 +493,16 @@ kdr_0_1_0_take_further:
 	stp	xzr, xzr, [x0]
 	str	xzr, [x0, #16]
 	ldp	x20, x19, [sp, #16]
+	.cfi_restore x20
+	.cfi_restore x19
 	ldr	x21, [sp], #32
+	.cfi_def_cfa_offset 0
+	.cfi_restore x21
 	ret
+	.cfi_def_cfa_offset 32
+	.cfi_offset x19, -8
+	.cfi_offset x20, -16
+	.cfi_offset x21, -32
 .L0_1_0_take_further_48:
 	lsl	x8, x13, #5
 	ldr	x9, [x1, #8]
@@ -455,8 +524,16 @@ kdr_0_1_0_take_further:
 	str	x10, [x0]
 	stp	x8, x9, [x0, #8]
 	ldp	x20, x19, [sp, #16]
+	.cfi_restore x20
+	.cfi_restore x19
 	ldr	x21, [sp], #32
+	.cfi_def_cfa_offset 0
+	.cfi_restore x21
 	ret
+	.cfi_def_cfa_offset 32
+	.cfi_offset x19, -8
+	.cfi_offset x20, -16
+	.cfi_offset x21, -32
 .L0_1_0_take_further_50:
 	lsl	x8, x2, #5
 	ldr	x9, [x1, #8]
@@ -488,10 +565,19 @@ kdr_0_1_0_take_further:
 	mov	w9, w15
 	stp	x8, x9, [x0, #8]
 	ldp	x20, x19, [sp, #16]
+	.cfi_restore x20
+	.cfi_restore x19
 	ldr	x21, [sp], #32
+	.cfi_def_cfa_offset 0
+	.cfi_restore x21
 	ret
+	.cfi_def_cfa_offset 32
+	.cfi_offset x19, -8
+	.cfi_offset x20, -16
+	.cfi_offset x21, -32
 .L0_1_0_take_further_53:
 	brk	#0x1
+	.cfi_endproc
 	.size kdr_0_1_0_take_further, . - kdr_0_1_0_take_further
 
 // kdr_handle_items
@@ -501,6 +587,7 @@ kdr_0_1_0_take_further:
 	.hidden kdr_0_1_0_handle_items
 	.type kdr_0_1_0_handle_items, %function
 kdr_0_1_0_handle_items:
+	.cfi_startproc
 	ldr	x9, [x0]
 	str	xzr, [x0]
 	cbz	x9, .L0_1_0_handle_items_1
@@ -520,6 +607,7 @@ kdr_0_1_0_handle_items:
 	str	x9, [x0]
 	mov	x0, x8
 	ret
+	.cfi_endproc
 	.size kdr_0_1_0_handle_items, . - kdr_0_1_0_handle_items
 
 // kdr_handle_new
@@ -529,15 +617,29 @@ kdr_0_1_0_handle_items:
 	.hidden kdr_0_1_0_handle_new
 	.type kdr_0_1_0_handle_new, %function
 kdr_0_1_0_handle_new:
+	.cfi_startproc
 	sub	sp, sp, #144
+	.cfi_def_cfa_offset 144
 	ldr	x8, [x2]
 	stp	x29, x30, [sp, #48]
+	.cfi_offset x30, -88
+	.cfi_offset x29, -96
 	add	x29, sp, #48
 	stp	x28, x27, [sp, #64]
+	.cfi_offset x27, -72
+	.cfi_offset x28, -80
 	stp	x26, x25, [sp, #80]
+	.cfi_offset x25, -56
+	.cfi_offset x26, -64
 	stp	x24, x23, [sp, #96]
+	.cfi_offset x23, -40
+	.cfi_offset x24, -48
 	stp	x22, x21, [sp, #112]
+	.cfi_offset x21, -24
+	.cfi_offset x22, -32
 	stp	x20, x19, [sp, #128]
+	.cfi_offset x19, -8
+	.cfi_offset x20, -16
 	str	xzr, [x2]
 	cbz	x8, .L0_1_0_handle_new_1
 	str	x8, [x2]
@@ -701,13 +803,39 @@ kdr_0_1_0_handle_new:
 	mov	w0, #7
 .L0_1_0_handle_new_21:
 	ldp	x20, x19, [sp, #128]
+	.cfi_restore x20
+	.cfi_restore x19
 	ldp	x22, x21, [sp, #112]
+	.cfi_restore x22
+	.cfi_restore x21
 	ldp	x24, x23, [sp, #96]
+	.cfi_restore x24
+	.cfi_restore x23
 	ldp	x26, x25, [sp, #80]
+	.cfi_restore x26
+	.cfi_restore x25
 	ldp	x28, x27, [sp, #64]
+	.cfi_restore x28
+	.cfi_restore x27
 	ldp	x29, x30, [sp, #48]
+	.cfi_restore x29
+	.cfi_restore x30
 	add	sp, sp, #144
+	.cfi_def_cfa_offset 0
 	ret
+	.cfi_def_cfa_offset 144
+	.cfi_offset x19, -8
+	.cfi_offset x20, -16
+	.cfi_offset x21, -24
+	.cfi_offset x22, -32
+	.cfi_offset x23, -40
+	.cfi_offset x24, -48
+	.cfi_offset x25, -56
+	.cfi_offset x26, -64
+	.cfi_offset x27, -72
+	.cfi_offset x28, -80
+	.cfi_offset x30, -88
+	.cfi_offset x29, -96
 .L0_1_0_handle_new_22:
 	ldr	x8, [sp, #40]
 	cbz	x8, .L0_1_0_handle_new_18
@@ -831,6 +959,7 @@ kdr_0_1_0_handle_new:
 	b	.L0_1_0_handle_new_27
 .L0_1_0_handle_new_34:
 	brk	#0x1
+	.cfi_endproc
 	.size kdr_0_1_0_handle_new, . - kdr_0_1_0_handle_new
 
 // kdr_handle_share
@@ -840,22 +969,47 @@ kdr_0_1_0_handle_new:
 	.hidden kdr_0_1_0_handle_share
 	.type kdr_0_1_0_handle_share, %function
 kdr_0_1_0_handle_share:
+	.cfi_startproc
 	stp	x29, x30, [sp, #-64]!
+	.cfi_def_cfa_offset 64
+	.cfi_offset x30, -56
+	.cfi_offset x29, -64
 	ldr	x8, [x1]
 	str	x23, [sp, #16]
+	.cfi_offset x23, -48
 	mov	x29, sp
 	stp	x22, x21, [sp, #32]
+	.cfi_offset x21, -24
+	.cfi_offset x22, -32
 	stp	x20, x19, [sp, #48]
+	.cfi_offset x19, -8
+	.cfi_offset x20, -16
 	str	xzr, [x1]
 	cbz	x8, .L0_1_0_handle_share_2
 	str	x8, [x1]
 	mov	w0, #5
 .L0_1_0_handle_share_1:
 	ldp	x20, x19, [sp, #48]
+	.cfi_restore x20
+	.cfi_restore x19
 	ldr	x23, [sp, #16]
+	.cfi_restore x23
 	ldp	x22, x21, [sp, #32]
+	.cfi_restore x22
+	.cfi_restore x21
 	ldp	x29, x30, [sp], #64
+	.cfi_def_cfa_offset 0
+	.cfi_restore x29
+	.cfi_restore x30
 	ret
+	.cfi_def_cfa_offset 64
+	.cfi_offset x19, -8
+	.cfi_offset x20, -16
+	.cfi_offset x21, -24
+	.cfi_offset x22, -32
+	.cfi_offset x23, -48
+	.cfi_offset x30, -56
+	.cfi_offset x29, -64
 .L0_1_0_handle_share_2:
 	ldr	x21, [x0]
 	str	xzr, [x0]
@@ -887,10 +1041,26 @@ kdr_0_1_0_handle_share:
 .L0_1_0_handle_share_6:
 	mov	w0, #4
 	ldp	x20, x19, [sp, #48]
+	.cfi_restore x20
+	.cfi_restore x19
 	ldr	x23, [sp, #16]
+	.cfi_restore x23
 	ldp	x22, x21, [sp, #32]
+	.cfi_restore x22
+	.cfi_restore x21
 	ldp	x29, x30, [sp], #64
+	.cfi_def_cfa_offset 0
+	.cfi_restore x29
+	.cfi_restore x30
 	ret
+	.cfi_def_cfa_offset 64
+	.cfi_offset x19, -8
+	.cfi_offset x20, -16
+	.cfi_offset x21, -24
+	.cfi_offset x22, -32
+	.cfi_offset x23, -48
+	.cfi_offset x30, -56
+	.cfi_offset x29, -64
 .L0_1_0_handle_share_7:
 	mov	w8, wzr
 	mov	x9, xzr
@@ -968,12 +1138,29 @@ kdr_0_1_0_handle_share:
 	cbnz	x8, .L0_1_0_handle_share_16
 	mov	w0, wzr
 	ldp	x20, x19, [sp, #48]
+	.cfi_restore x20
+	.cfi_restore x19
 	ldr	x23, [sp, #16]
+	.cfi_restore x23
 	ldp	x22, x21, [sp, #32]
+	.cfi_restore x22
+	.cfi_restore x21
 	ldp	x29, x30, [sp], #64
+	.cfi_def_cfa_offset 0
+	.cfi_restore x29
+	.cfi_restore x30
 	ret
+	.cfi_def_cfa_offset 64
+	.cfi_offset x19, -8
+	.cfi_offset x20, -16
+	.cfi_offset x21, -24
+	.cfi_offset x22, -32
+	.cfi_offset x23, -48
+	.cfi_offset x30, -56
+	.cfi_offset x29, -64
 .L0_1_0_handle_share_16:
 	brk	#0x1
+	.cfi_endproc
 	.size kdr_0_1_0_handle_share, . - kdr_0_1_0_handle_share
 
 // kdr_place_pull
@@ -983,12 +1170,19 @@ kdr_0_1_0_handle_share:
 	.hidden kdr_0_1_0_place_pull
 	.type kdr_0_1_0_place_pull, %function
 kdr_0_1_0_place_pull:
+	.cfi_startproc
 	sub	sp, sp, #80
+	.cfi_def_cfa_offset 80
 	stp	x20, x19, [sp, #64]
+	.cfi_offset x19, -8
+	.cfi_offset x20, -16
 	ldr	x19, [x0]
 	stp	x29, x30, [sp, #32]
+	.cfi_offset x30, -40
+	.cfi_offset x29, -48
 	add	x29, sp, #32
 	str	x21, [sp, #48]
+	.cfi_offset x21, -32
 	str	xzr, [x0]
 	cbz	x19, .L0_1_0_place_pull_3
 	ldrb	w8, [x19, #24]
@@ -1009,19 +1203,43 @@ kdr_0_1_0_place_pull:
 	cbnz	x9, .L0_1_0_place_pull_15
 .L0_1_0_place_pull_2:
 	ldp	x20, x19, [sp, #64]
+	.cfi_restore x20
+	.cfi_restore x19
 	mov	w0, w8
 	ldp	x29, x30, [sp, #32]
+	.cfi_restore x29
+	.cfi_restore x30
 	ldr	x21, [sp, #48]
+	.cfi_restore x21
 	add	sp, sp, #80
+	.cfi_def_cfa_offset 0
 	ret
+	.cfi_def_cfa_offset 80
+	.cfi_offset x19, -8
+	.cfi_offset x20, -16
+	.cfi_offset x21, -32
+	.cfi_offset x30, -40
+	.cfi_offset x29, -48
 .L0_1_0_place_pull_3:
 	mov	w8, #4
 	ldp	x20, x19, [sp, #64]
+	.cfi_restore x20
+	.cfi_restore x19
 	mov	w0, w8
 	ldp	x29, x30, [sp, #32]
+	.cfi_restore x29
+	.cfi_restore x30
 	ldr	x21, [sp, #48]
+	.cfi_restore x21
 	add	sp, sp, #80
+	.cfi_def_cfa_offset 0
 	ret
+	.cfi_def_cfa_offset 80
+	.cfi_offset x19, -8
+	.cfi_offset x20, -16
+	.cfi_offset x21, -32
+	.cfi_offset x30, -40
+	.cfi_offset x29, -48
 .L0_1_0_place_pull_4:
 	ldr	x8, [x19, #40]
 	ldr	x9, [x8, #80]
@@ -1106,6 +1324,7 @@ kdr_0_1_0_place_pull:
 	cbz	x9, .L0_1_0_place_pull_2
 .L0_1_0_place_pull_15:
 	brk	#0x1
+	.cfi_endproc
 	.size kdr_0_1_0_place_pull, . - kdr_0_1_0_place_pull
 
 // kdr_pool_drop
@@ -1115,13 +1334,23 @@ kdr_0_1_0_place_pull:
 	.hidden kdr_0_1_0_pool_drop
 	.type kdr_0_1_0_pool_drop, %function
 kdr_0_1_0_pool_drop:
+	.cfi_startproc
 	stp	x29, x30, [sp, #-64]!
+	.cfi_def_cfa_offset 64
+	.cfi_offset x30, -56
+	.cfi_offset x29, -64
 	stp	x20, x19, [sp, #48]
+	.cfi_offset x19, -8
+	.cfi_offset x20, -16
 	mov	x20, x0
 	ldr	x0, [x0]
 	stp	x24, x23, [sp, #16]
+	.cfi_offset x23, -40
+	.cfi_offset x24, -48
 	mov	x29, sp
 	stp	x22, x21, [sp, #32]
+	.cfi_offset x21, -24
+	.cfi_offset x22, -32
 	str	xzr, [x20]
 	cbz	x0, .L0_1_0_pool_drop_5
 	ldp	x21, x22, [x0, #40]
@@ -1183,10 +1412,28 @@ kdr_0_1_0_pool_drop:
 .L0_1_0_pool_drop_5:
 	mov	w0, #4
 	ldp	x20, x19, [sp, #48]
+	.cfi_restore x20
+	.cfi_restore x19
 	ldp	x22, x21, [sp, #32]
+	.cfi_restore x22
+	.cfi_restore x21
 	ldp	x24, x23, [sp, #16]
+	.cfi_restore x24
+	.cfi_restore x23
 	ldp	x29, x30, [sp], #64
+	.cfi_def_cfa_offset 0
+	.cfi_restore x29
+	.cfi_restore x30
 	ret
+	.cfi_def_cfa_offset 64
+	.cfi_offset x19, -8
+	.cfi_offset x20, -16
+	.cfi_offset x21, -24
+	.cfi_offset x22, -32
+	.cfi_offset x23, -40
+	.cfi_offset x24, -48
+	.cfi_offset x30, -56
+	.cfi_offset x29, -64
 .L0_1_0_pool_drop_6:
 	ldaxr	x8, [x19]
 	sub	x9, x8, #1
@@ -1200,10 +1447,28 @@ kdr_0_1_0_pool_drop:
 .L0_1_0_pool_drop_8:
 	mov	w0, wzr
 	ldp	x20, x19, [sp, #48]
+	.cfi_restore x20
+	.cfi_restore x19
 	ldp	x22, x21, [sp, #32]
+	.cfi_restore x22
+	.cfi_restore x21
 	ldp	x24, x23, [sp, #16]
+	.cfi_restore x24
+	.cfi_restore x23
 	ldp	x29, x30, [sp], #64
+	.cfi_def_cfa_offset 0
+	.cfi_restore x29
+	.cfi_restore x30
 	ret
+	.cfi_def_cfa_offset 64
+	.cfi_offset x19, -8
+	.cfi_offset x20, -16
+	.cfi_offset x21, -24
+	.cfi_offset x22, -32
+	.cfi_offset x23, -40
+	.cfi_offset x24, -48
+	.cfi_offset x30, -56
+	.cfi_offset x29, -64
 .L0_1_0_pool_drop_9:
 	ldr	x8, [x20]
 	str	xzr, [x20]
@@ -1232,6 +1497,7 @@ kdr_0_1_0_pool_drop:
 	b	.L0_1_0_pool_drop_8
 .L0_1_0_pool_drop_12:
 	brk	#0x1
+	.cfi_endproc
 	.size kdr_0_1_0_pool_drop, . - kdr_0_1_0_pool_drop
 
 // kdr_pool_pull
@@ -1241,12 +1507,20 @@ kdr_0_1_0_pool_drop:
 	.hidden kdr_0_1_0_pool_pull
 	.type kdr_0_1_0_pool_pull, %function
 kdr_0_1_0_pool_pull:
+	.cfi_startproc
 	sub	sp, sp, #80
+	.cfi_def_cfa_offset 80
 	stp	x20, x19, [sp, #64]
+	.cfi_offset x19, -8
+	.cfi_offset x20, -16
 	ldr	x19, [x0]
 	stp	x29, x30, [sp, #32]
+	.cfi_offset x30, -40
+	.cfi_offset x29, -48
 	add	x29, sp, #32
 	stp	x22, x21, [sp, #48]
+	.cfi_offset x21, -24
+	.cfi_offset x22, -32
 	str	xzr, [x0]
 	cbz	x19, .L0_1_0_pool_pull_2
 	movi	v0.2d, #0000000000000000
@@ -1268,10 +1542,24 @@ kdr_0_1_0_pool_pull:
 	cbnz	x8, .L0_1_0_pool_pull_14
 	mov	w0, #2
 	ldp	x20, x19, [sp, #64]
+	.cfi_restore x20
+	.cfi_restore x19
 	ldp	x22, x21, [sp, #48]
+	.cfi_restore x22
+	.cfi_restore x21
 	ldp	x29, x30, [sp, #32]
+	.cfi_restore x29
+	.cfi_restore x30
 	add	sp, sp, #80
+	.cfi_def_cfa_offset 0
 	ret
+	.cfi_def_cfa_offset 80
+	.cfi_offset x19, -8
+	.cfi_offset x20, -16
+	.cfi_offset x21, -24
+	.cfi_offset x22, -32
+	.cfi_offset x30, -40
+	.cfi_offset x29, -48
 .L0_1_0_pool_pull_1:
 	ldr	x8, [x0]
 	str	x19, [x0]
@@ -1279,10 +1567,24 @@ kdr_0_1_0_pool_pull:
 .L0_1_0_pool_pull_2:
 	mov	w0, #4
 	ldp	x20, x19, [sp, #64]
+	.cfi_restore x20
+	.cfi_restore x19
 	ldp	x22, x21, [sp, #48]
+	.cfi_restore x22
+	.cfi_restore x21
 	ldp	x29, x30, [sp, #32]
+	.cfi_restore x29
+	.cfi_restore x30
 	add	sp, sp, #80
+	.cfi_def_cfa_offset 0
 	ret
+	.cfi_def_cfa_offset 80
+	.cfi_offset x19, -8
+	.cfi_offset x20, -16
+	.cfi_offset x21, -24
+	.cfi_offset x22, -32
+	.cfi_offset x30, -40
+	.cfi_offset x29, -48
 .L0_1_0_pool_pull_3:
 	ldr	x8, [x20, #80]
 	cmp	x2, x8
@@ -1363,10 +1665,24 @@ kdr_0_1_0_pool_pull:
 	cbnz	x8, .L0_1_0_pool_pull_14
 	mov	w0, wzr
 	ldp	x20, x19, [sp, #64]
+	.cfi_restore x20
+	.cfi_restore x19
 	ldp	x22, x21, [sp, #48]
+	.cfi_restore x22
+	.cfi_restore x21
 	ldp	x29, x30, [sp, #32]
+	.cfi_restore x29
+	.cfi_restore x30
 	add	sp, sp, #80
+	.cfi_def_cfa_offset 0
 	ret
+	.cfi_def_cfa_offset 80
+	.cfi_offset x19, -8
+	.cfi_offset x20, -16
+	.cfi_offset x21, -24
+	.cfi_offset x22, -32
+	.cfi_offset x30, -40
+	.cfi_offset x29, -48
 .L0_1_0_pool_pull_13:
 	adrp	x8, .L0_1_0_constant_16_2
 	stp	x20, xzr, [x19, #40]
@@ -1379,12 +1695,27 @@ kdr_0_1_0_pool_pull:
 	cbnz	x8, .L0_1_0_pool_pull_14
 	mov	w0, #1
 	ldp	x20, x19, [sp, #64]
+	.cfi_restore x20
+	.cfi_restore x19
 	ldp	x22, x21, [sp, #48]
+	.cfi_restore x22
+	.cfi_restore x21
 	ldp	x29, x30, [sp, #32]
+	.cfi_restore x29
+	.cfi_restore x30
 	add	sp, sp, #80
+	.cfi_def_cfa_offset 0
 	ret
+	.cfi_def_cfa_offset 80
+	.cfi_offset x19, -8
+	.cfi_offset x20, -16
+	.cfi_offset x21, -24
+	.cfi_offset x22, -32
+	.cfi_offset x30, -40
+	.cfi_offset x29, -48
 .L0_1_0_pool_pull_14:
 	brk	#0x1
+	.cfi_endproc
 	.size kdr_0_1_0_pool_pull, . - kdr_0_1_0_pool_pull
 
 // kdr_pool_pull_near
@@ -1394,12 +1725,20 @@ kdr_0_1_0_pool_pull:
 	.hidden kdr_0_1_0_pool_pull_near
 	.type kdr_0_1_0_pool_pull_near, %function
 kdr_0_1_0_pool_pull_near:
+	.cfi_startproc
 	sub	sp, sp, #80
+	.cfi_def_cfa_offset 80
 	stp	x20, x19, [sp, #64]
+	.cfi_offset x19, -8
+	.cfi_offset x20, -16
 	ldr	x19, [x0]
 	stp	x29, x30, [sp, #32]
+	.cfi_offset x30, -40
+	.cfi_offset x29, -48
 	add	x29, sp, #32
 	stp	x22, x21, [sp, #48]
+	.cfi_offset x21, -24
+	.cfi_offset x22, -32
 	str	xzr, [x0]
 	cbz	x19, .L0_1_0_pool_pull_near_2
 	movi	v0.2d, #0000000000000000
@@ -1420,10 +1759,24 @@ kdr_0_1_0_pool_pull_near:
 	cbnz	x8, .L0_1_0_pool_pull_near_14
 	mov	w0, #2
 	ldp	x20, x19, [sp, #64]
+	.cfi_restore x20
+	.cfi_restore x19
 	ldp	x22, x21, [sp, #48]
+	.cfi_restore x22
+	.cfi_restore x21
 	ldp	x29, x30, [sp, #32]
+	.cfi_restore x29
+	.cfi_restore x30
 	add	sp, sp, #80
+	.cfi_def_cfa_offset 0
 	ret
+	.cfi_def_cfa_offset 80
+	.cfi_offset x19, -8
+	.cfi_offset x20, -16
+	.cfi_offset x21, -24
+	.cfi_offset x22, -32
+	.cfi_offset x30, -40
+	.cfi_offset x29, -48
 .L0_1_0_pool_pull_near_1:
 	ldr	x8, [x0]
 	str	x19, [x0]
@@ -1431,10 +1784,24 @@ kdr_0_1_0_pool_pull_near:
 .L0_1_0_pool_pull_near_2:
 	mov	w0, #4
 	ldp	x20, x19, [sp, #64]
+	.cfi_restore x20
+	.cfi_restore x19
 	ldp	x22, x21, [sp, #48]
+	.cfi_restore x22
+	.cfi_restore x21
 	ldp	x29, x30, [sp, #32]
+	.cfi_restore x29
+	.cfi_restore x30
 	add	sp, sp, #80
+	.cfi_def_cfa_offset 0
 	ret
+	.cfi_def_cfa_offset 80
+	.cfi_offset x19, -8
+	.cfi_offset x20, -16
+	.cfi_offset x21, -24
+	.cfi_offset x22, -32
+	.cfi_offset x30, -40
+	.cfi_offset x29, -48
 .L0_1_0_pool_pull_near_3:
 	ldr	x8, [x20, #80]
 	cmp	x1, x8
@@ -1516,10 +1883,24 @@ kdr_0_1_0_pool_pull_near:
 	cbnz	x8, .L0_1_0_pool_pull_near_14
 	mov	w0, wzr
 	ldp	x20, x19, [sp, #64]
+	.cfi_restore x20
+	.cfi_restore x19
 	ldp	x22, x21, [sp, #48]
+	.cfi_restore x22
+	.cfi_restore x21
 	ldp	x29, x30, [sp, #32]
+	.cfi_restore x29
+	.cfi_restore x30
 	add	sp, sp, #80
+	.cfi_def_cfa_offset 0
 	ret
+	.cfi_def_cfa_offset 80
+	.cfi_offset x19, -8
+	.cfi_offset x20, -16
+	.cfi_offset x21, -24
+	.cfi_offset x22, -32
+	.cfi_offset x30, -40
+	.cfi_offset x29, -48
 .L0_1_0_pool_pull_near_13:
 	adrp	x8, .L0_1_0_constant_16_3
 	stp	x20, xzr, [x19, #40]
@@ -1532,12 +1913,27 @@ kdr_0_1_0_pool_pull_near:
 	cbnz	x8, .L0_1_0_pool_pull_near_14
 	mov	w0, #1
 	ldp	x20, x19, [sp, #64]
+	.cfi_restore x20
+	.cfi_restore x19
 	ldp	x22, x21, [sp, #48]
+	.cfi_restore x22
+	.cfi_restore x21
 	ldp	x29, x30, [sp, #32]
+	.cfi_restore x29
+	.cfi_restore x30
 	add	sp, sp, #80
+	.cfi_def_cfa_offset 0
 	ret
+	.cfi_def_cfa_offset 80
+	.cfi_offset x19, -8
+	.cfi_offset x20, -16
+	.cfi_offset x21, -24
+	.cfi_offset x22, -32
+	.cfi_offset x30, -40
+	.cfi_offset x29, -48
 .L0_1_0_pool_pull_near_14:
 	brk	#0x1
+	.cfi_endproc
 	.size kdr_0_1_0_pool_pull_near, . - kdr_0_1_0_pool_pull_near
 
 // kdr_pool_return
@@ -1547,6 +1943,7 @@ kdr_0_1_0_pool_pull_near:
 	.hidden kdr_0_1_0_pool_return
 	.type kdr_0_1_0_pool_return, %function
 kdr_0_1_0_pool_return:
+	.cfi_startproc
 	ldr	x8, [x0]
 	str	xzr, [x0]
 	cbz	x8, .L0_1_0_pool_return_4
@@ -1610,6 +2007,7 @@ kdr_0_1_0_pool_return:
 	ret
 .L0_1_0_pool_return_6:
 	brk	#0x1
+	.cfi_endproc
 	.size kdr_0_1_0_pool_return, . - kdr_0_1_0_pool_return
 
 // kdr_place_return
@@ -1619,6 +2017,7 @@ kdr_0_1_0_pool_return:
 	.hidden kdr_0_1_0_place_return
 	.type kdr_0_1_0_place_return, %function
 kdr_0_1_0_place_return:
+	.cfi_startproc
 	ldr	x9, [x0]
 	str	xzr, [x0]
 	cbz	x9, .L0_1_0_place_return_2
@@ -1692,6 +2091,7 @@ kdr_0_1_0_place_return:
 	ret
 .L0_1_0_place_return_8:
 	brk	#0x1
+	.cfi_endproc
 	.size kdr_0_1_0_place_return, . - kdr_0_1_0_place_return
 
 	.section .note.GNU-stack, "", %progbits

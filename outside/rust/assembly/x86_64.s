@@ -9,12 +9,18 @@
 	.p2align 4
 	.type kdr_0_1_0_grow_amortized, %function
 kdr_0_1_0_grow_amortized:
+	.cfi_startproc
 	movq	8(%rdi), %rsi
 	cmpq	$-1, %rsi
 	je	.L0_1_0_grow_amortized_2
 	pushq	%r14
+	.cfi_def_cfa_offset 16
+	.cfi_offset %r14, -16
 	pushq	%rbx
+	.cfi_def_cfa_offset 24
+	.cfi_offset %rbx, -24
 	pushq	%rax
+	.cfi_def_cfa_offset 32
 	movq	16(%rdi), %rcx
 	cmpq	$8, %rsi
 	movl	$7, %ebx
@@ -43,12 +49,20 @@ kdr_0_1_0_grow_amortized:
 	movq	%rbx, 16(%r14)
 	movb	$1, %al
 	addq	$8, %rsp
+	.cfi_def_cfa_offset 24
 	popq	%rbx
+	.cfi_def_cfa_offset 16
+	.cfi_restore %rbx
 	popq	%r14
+	.cfi_def_cfa_offset 8
+	.cfi_restore %r14
 	retq
 .L0_1_0_grow_amortized_2:
 	xorl	%eax, %eax
 	retq
+	.cfi_def_cfa_offset 32
+	.cfi_offset %r14, -16
+	.cfi_offset %rbx, -24
 .L0_1_0_grow_amortized_3:
 	movq	%rdi, %r14
 	movl	$1, %esi
@@ -59,9 +73,15 @@ kdr_0_1_0_grow_amortized:
 .L0_1_0_grow_amortized_4:
 	xorl	%eax, %eax
 	addq	$8, %rsp
+	.cfi_def_cfa_offset 24
 	popq	%rbx
+	.cfi_def_cfa_offset 16
+	.cfi_restore %rbx
 	popq	%r14
+	.cfi_def_cfa_offset 8
+	.cfi_restore %r14
 	retq
+	.cfi_endproc
 	.size kdr_0_1_0_grow_amortized, . - kdr_0_1_0_grow_amortized
 
 # fixed_pool_c::open_handle::OpenHandle::open
@@ -69,11 +89,22 @@ kdr_0_1_0_grow_amortized:
 	.p2align 4
 	.type kdr_0_1_0_open, %function
 kdr_0_1_0_open:
+	.cfi_startproc
 	pushq	%r15
+	.cfi_def_cfa_offset 16
+	.cfi_offset %r15, -16
 	pushq	%r14
+	.cfi_def_cfa_offset 24
+	.cfi_offset %r14, -24
 	pushq	%r13
+	.cfi_def_cfa_offset 32
+	.cfi_offset %r13, -32
 	pushq	%r12
+	.cfi_def_cfa_offset 40
+	.cfi_offset %r12, -40
 	pushq	%rbx
+	.cfi_def_cfa_offset 48
+	.cfi_offset %rbx, -48
 	movq	%rdx, %r14
 	movl	$1, %r12d
 	lock xaddq	%r12, 8(%rdx)
@@ -131,11 +162,22 @@ kdr_0_1_0_open:
 	xorl	%eax, %eax
 .L0_1_0_open_4:
 	popq	%rbx
+	.cfi_def_cfa_offset 40
+	.cfi_restore %rbx
 	popq	%r12
+	.cfi_def_cfa_offset 32
+	.cfi_restore %r12
 	popq	%r13
+	.cfi_def_cfa_offset 24
+	.cfi_restore %r13
 	popq	%r14
+	.cfi_def_cfa_offset 16
+	.cfi_restore %r14
 	popq	%r15
+	.cfi_def_cfa_offset 8
+	.cfi_restore %r15
 	retq
+	.cfi_endproc
 	.size kdr_0_1_0_open, . - kdr_0_1_0_open
 
 # fixed_pools::fixed_object_pool::items::FixedItems::take_further
@@ -143,12 +185,25 @@ kdr_0_1_0_open:
 	.p2align 4
 	.type kdr_0_1_0_take_further, %function
 kdr_0_1_0_take_further:
+	.cfi_startproc
 	pushq	%rbp
+	.cfi_def_cfa_offset 16
+	.cfi_offset %rbp, -16
 	pushq	%r15
+	.cfi_def_cfa_offset 24
+	.cfi_offset %r15, -24
 	pushq	%r14
+	.cfi_def_cfa_offset 32
+	.cfi_offset %r14, -32
 	pushq	%r13
+	.cfi_def_cfa_offset 40
+	.cfi_offset %r13, -40
 	pushq	%r12
+	.cfi_def_cfa_offset 48
+	.cfi_offset %r12, -48
 	pushq	%rbx
+	.cfi_def_cfa_offset 56
+	.cfi_offset %rbx, -56
 	movq	%rdi, -24(%rsp)
 	movq	88(%rsi), %r11
 	movq	72(%rsi), %r14
@@ -468,14 +523,34 @@ kdr_0_1_0_take_further:
 	movq	%rax, 16(%rcx)
 .L0_1_0_take_further_33:
 	popq	%rbx
+	.cfi_def_cfa_offset 48
+	.cfi_restore %rbx
 	popq	%r12
+	.cfi_def_cfa_offset 40
+	.cfi_restore %r12
 	popq	%r13
+	.cfi_def_cfa_offset 32
+	.cfi_restore %r13
 	popq	%r14
+	.cfi_def_cfa_offset 24
+	.cfi_restore %r14
 	popq	%r15
+	.cfi_def_cfa_offset 16
+	.cfi_restore %r15
 	popq	%rbp
+	.cfi_def_cfa_offset 8
+	.cfi_restore %rbp
 	retq
+	.cfi_def_cfa_offset 56
+	.cfi_offset %rbp, -16
+	.cfi_offset %r15, -24
+	.cfi_offset %r14, -32
+	.cfi_offset %r13, -40
+	.cfi_offset %r12, -48
+	.cfi_offset %rbx, -56
 .L0_1_0_take_further_34:
 	ud2
+	.cfi_endproc
 	.size kdr_0_1_0_take_further, . - kdr_0_1_0_take_further
 
 # kdr_handle_items
@@ -485,6 +560,7 @@ kdr_0_1_0_take_further:
 	.hidden kdr_0_1_0_handle_items
 	.type kdr_0_1_0_handle_items, %function
 kdr_0_1_0_handle_items:
+	.cfi_startproc
 	movq	(%rdi), %rcx
 	movq	$0, (%rdi)
 	testq	%rcx, %rcx
@@ -502,6 +578,7 @@ kdr_0_1_0_handle_items:
 	xorl	%eax, %eax
 	movq	%rcx, (%rdi)
 	retq
+	.cfi_endproc
 	.size kdr_0_1_0_handle_items, . - kdr_0_1_0_handle_items
 
 # constants
@@ -517,13 +594,27 @@ kdr_0_1_0_handle_items:
 	.hidden kdr_0_1_0_handle_new
 	.type kdr_0_1_0_handle_new, %function
 kdr_0_1_0_handle_new:
+	.cfi_startproc
 	pushq	%rbp
+	.cfi_def_cfa_offset 16
+	.cfi_offset %rbp, -16
 	pushq	%r15
+	.cfi_def_cfa_offset 24
+	.cfi_offset %r15, -24
 	pushq	%r14
+	.cfi_def_cfa_offset 32
+	.cfi_offset %r14, -32
 	pushq	%r13
+	.cfi_def_cfa_offset 40
+	.cfi_offset %r13, -40
 	pushq	%r12
+	.cfi_def_cfa_offset 48
+	.cfi_offset %r12, -48
 	pushq	%rbx
+	.cfi_def_cfa_offset 56
+	.cfi_offset %rbx, -56
 	subq	$88, %rsp
+	.cfi_def_cfa_offset 144
 	movq	(%rdx), %rax
 	movq	$0, (%rdx)
 	testq	%rax, %rax
@@ -690,13 +781,33 @@ kdr_0_1_0_handle_new:
 	movl	$7, %eax
 .L0_1_0_handle_new_18:
 	addq	$88, %rsp
+	.cfi_def_cfa_offset 56
 	popq	%rbx
+	.cfi_def_cfa_offset 48
+	.cfi_restore %rbx
 	popq	%r12
+	.cfi_def_cfa_offset 40
+	.cfi_restore %r12
 	popq	%r13
+	.cfi_def_cfa_offset 32
+	.cfi_restore %r13
 	popq	%r14
+	.cfi_def_cfa_offset 24
+	.cfi_restore %r14
 	popq	%r15
+	.cfi_def_cfa_offset 16
+	.cfi_restore %r15
 	popq	%rbp
+	.cfi_def_cfa_offset 8
+	.cfi_restore %rbp
 	retq
+	.cfi_def_cfa_offset 144
+	.cfi_offset %rbp, -16
+	.cfi_offset %r15, -24
+	.cfi_offset %r14, -32
+	.cfi_offset %r13, -40
+	.cfi_offset %r12, -48
+	.cfi_offset %rbx, -56
 .L0_1_0_handle_new_19:
 	cmpq	$0, 48(%rsp)
 	je	.L0_1_0_handle_new_15
@@ -908,6 +1019,7 @@ kdr_0_1_0_handle_new:
 	andq	$3, %r8
 	jne	.L0_1_0_handle_new_31
 	jmp	.L0_1_0_handle_new_32
+	.cfi_endproc
 	.size kdr_0_1_0_handle_new, . - kdr_0_1_0_handle_new
 
 # kdr_handle_share
@@ -917,13 +1029,27 @@ kdr_0_1_0_handle_new:
 	.hidden kdr_0_1_0_handle_share
 	.type kdr_0_1_0_handle_share, %function
 kdr_0_1_0_handle_share:
+	.cfi_startproc
 	pushq	%rbp
+	.cfi_def_cfa_offset 16
+	.cfi_offset %rbp, -16
 	pushq	%r15
+	.cfi_def_cfa_offset 24
+	.cfi_offset %r15, -24
 	pushq	%r14
+	.cfi_def_cfa_offset 32
+	.cfi_offset %r14, -32
 	pushq	%r13
+	.cfi_def_cfa_offset 40
+	.cfi_offset %r13, -40
 	pushq	%r12
+	.cfi_def_cfa_offset 48
+	.cfi_offset %r12, -48
 	pushq	%rbx
+	.cfi_def_cfa_offset 56
+	.cfi_offset %rbx, -56
 	pushq	%rax
+	.cfi_def_cfa_offset 64
 	movq	(%rsi), %rax
 	movq	$0, (%rsi)
 	testq	%rax, %rax
@@ -933,13 +1059,33 @@ kdr_0_1_0_handle_share:
 .L0_1_0_handle_share_1:
 	movl	%ebx, %eax
 	addq	$8, %rsp
+	.cfi_def_cfa_offset 56
 	popq	%rbx
+	.cfi_def_cfa_offset 48
+	.cfi_restore %rbx
 	popq	%r12
+	.cfi_def_cfa_offset 40
+	.cfi_restore %r12
 	popq	%r13
+	.cfi_def_cfa_offset 32
+	.cfi_restore %r13
 	popq	%r14
+	.cfi_def_cfa_offset 24
+	.cfi_restore %r14
 	popq	%r15
+	.cfi_def_cfa_offset 16
+	.cfi_restore %r15
 	popq	%rbp
+	.cfi_def_cfa_offset 8
+	.cfi_restore %rbp
 	retq
+	.cfi_def_cfa_offset 64
+	.cfi_offset %rbp, -16
+	.cfi_offset %r15, -24
+	.cfi_offset %r14, -32
+	.cfi_offset %r13, -40
+	.cfi_offset %r12, -48
+	.cfi_offset %rbx, -56
 .L0_1_0_handle_share_2:
 	movq	(%rdi), %r12
 	movq	$0, (%rdi)
@@ -1018,6 +1164,7 @@ kdr_0_1_0_handle_share:
 	movq	%r13, %rdi
 	movq	%rbp, %rsi
 	jmp	.L0_1_0_handle_share_7
+	.cfi_endproc
 	.size kdr_0_1_0_handle_share, . - kdr_0_1_0_handle_share
 
 # kdr_place_pull
@@ -1027,12 +1174,24 @@ kdr_0_1_0_handle_share:
 	.hidden kdr_0_1_0_place_pull
 	.type kdr_0_1_0_place_pull, %function
 kdr_0_1_0_place_pull:
+	.cfi_startproc
 	pushq	%r15
+	.cfi_def_cfa_offset 16
+	.cfi_offset %r15, -16
 	pushq	%r14
+	.cfi_def_cfa_offset 24
+	.cfi_offset %r14, -24
 	pushq	%r13
+	.cfi_def_cfa_offset 32
+	.cfi_offset %r13, -32
 	pushq	%r12
+	.cfi_def_cfa_offset 40
+	.cfi_offset %r12, -40
 	pushq	%rbx
+	.cfi_def_cfa_offset 48
+	.cfi_offset %rbx, -48
 	subq	$32, %rsp
+	.cfi_def_cfa_offset 80
 	movq	(%rdi), %rbx
 	movq	$0, (%rdi)
 	testq	%rbx, %rbx
@@ -1134,12 +1293,29 @@ kdr_0_1_0_place_pull:
 	jne	.L0_1_0_place_pull_12
 .L0_1_0_place_pull_10:
 	addq	$32, %rsp
+	.cfi_def_cfa_offset 48
 	popq	%rbx
+	.cfi_def_cfa_offset 40
+	.cfi_restore %rbx
 	popq	%r12
+	.cfi_def_cfa_offset 32
+	.cfi_restore %r12
 	popq	%r13
+	.cfi_def_cfa_offset 24
+	.cfi_restore %r13
 	popq	%r14
+	.cfi_def_cfa_offset 16
+	.cfi_restore %r14
 	popq	%r15
+	.cfi_def_cfa_offset 8
+	.cfi_restore %r15
 	retq
+	.cfi_def_cfa_offset 80
+	.cfi_offset %r15, -16
+	.cfi_offset %r14, -24
+	.cfi_offset %r13, -32
+	.cfi_offset %r12, -40
+	.cfi_offset %rbx, -48
 .L0_1_0_place_pull_11:
 	xorps	%xmm0, %xmm0
 	movups	%xmm0, (%r15)
@@ -1150,6 +1326,7 @@ kdr_0_1_0_place_pull:
 	je	.L0_1_0_place_pull_10
 .L0_1_0_place_pull_12:
 	ud2
+	.cfi_endproc
 	.size kdr_0_1_0_place_pull, . - kdr_0_1_0_place_pull
 
 # kdr_pool_drop
@@ -1159,13 +1336,27 @@ kdr_0_1_0_place_pull:
 	.hidden kdr_0_1_0_pool_drop
 	.type kdr_0_1_0_pool_drop, %function
 kdr_0_1_0_pool_drop:
+	.cfi_startproc
 	pushq	%rbp
+	.cfi_def_cfa_offset 16
+	.cfi_offset %rbp, -16
 	pushq	%r15
+	.cfi_def_cfa_offset 24
+	.cfi_offset %r15, -24
 	pushq	%r14
+	.cfi_def_cfa_offset 32
+	.cfi_offset %r14, -32
 	pushq	%r13
+	.cfi_def_cfa_offset 40
+	.cfi_offset %r13, -40
 	pushq	%r12
+	.cfi_def_cfa_offset 48
+	.cfi_offset %r12, -48
 	pushq	%rbx
+	.cfi_def_cfa_offset 56
+	.cfi_offset %rbx, -56
 	pushq	%rax
+	.cfi_def_cfa_offset 64
 	movq	%rdi, %r14
 	movq	(%rdi), %rdi
 	movq	$0, (%r14)
@@ -1231,13 +1422,33 @@ kdr_0_1_0_pool_drop:
 	xorl	%eax, %eax
 .L0_1_0_pool_drop_6:
 	addq	$8, %rsp
+	.cfi_def_cfa_offset 56
 	popq	%rbx
+	.cfi_def_cfa_offset 48
+	.cfi_restore %rbx
 	popq	%r12
+	.cfi_def_cfa_offset 40
+	.cfi_restore %r12
 	popq	%r13
+	.cfi_def_cfa_offset 32
+	.cfi_restore %r13
 	popq	%r14
+	.cfi_def_cfa_offset 24
+	.cfi_restore %r14
 	popq	%r15
+	.cfi_def_cfa_offset 16
+	.cfi_restore %r15
 	popq	%rbp
+	.cfi_def_cfa_offset 8
+	.cfi_restore %rbp
 	retq
+	.cfi_def_cfa_offset 64
+	.cfi_offset %rbp, -16
+	.cfi_offset %r15, -24
+	.cfi_offset %r14, -32
+	.cfi_offset %r13, -40
+	.cfi_offset %r12, -48
+	.cfi_offset %rbx, -56
 .L0_1_0_pool_drop_7:
 	cmpq	$0, (%r14)
 	movq	$0, (%r14)
@@ -1259,6 +1470,7 @@ kdr_0_1_0_pool_drop:
 	jmp	.L0_1_0_pool_drop_6
 .L0_1_0_pool_drop_9:
 	ud2
+	.cfi_endproc
 	.size kdr_0_1_0_pool_drop, . - kdr_0_1_0_pool_drop
 
 # kdr_pool_pull
@@ -1268,12 +1480,24 @@ kdr_0_1_0_pool_drop:
 	.hidden kdr_0_1_0_pool_pull
 	.type kdr_0_1_0_pool_pull, %function
 kdr_0_1_0_pool_pull:
+	.cfi_startproc
 	pushq	%r15
+	.cfi_def_cfa_offset 16
+	.cfi_offset %r15, -16
 	pushq	%r14
+	.cfi_def_cfa_offset 24
+	.cfi_offset %r14, -24
 	pushq	%r13
+	.cfi_def_cfa_offset 32
+	.cfi_offset %r13, -32
 	pushq	%r12
+	.cfi_def_cfa_offset 40
+	.cfi_offset %r12, -40
 	pushq	%rbx
+	.cfi_def_cfa_offset 48
+	.cfi_offset %rbx, -48
 	subq	$32, %rsp
+	.cfi_def_cfa_offset 80
 	movq	(%rdi), %rbx
 	movq	$0, (%rdi)
 	movl	$4, %eax
@@ -1383,12 +1607,29 @@ kdr_0_1_0_pool_pull:
 	jne	.L0_1_0_pool_pull_11
 .L0_1_0_pool_pull_9:
 	addq	$32, %rsp
+	.cfi_def_cfa_offset 48
 	popq	%rbx
+	.cfi_def_cfa_offset 40
+	.cfi_restore %rbx
 	popq	%r12
+	.cfi_def_cfa_offset 32
+	.cfi_restore %r12
 	popq	%r13
+	.cfi_def_cfa_offset 24
+	.cfi_restore %r13
 	popq	%r14
+	.cfi_def_cfa_offset 16
+	.cfi_restore %r14
 	popq	%r15
+	.cfi_def_cfa_offset 8
+	.cfi_restore %r15
 	retq
+	.cfi_def_cfa_offset 80
+	.cfi_offset %r15, -16
+	.cfi_offset %r14, -24
+	.cfi_offset %r13, -32
+	.cfi_offset %r12, -40
+	.cfi_offset %rbx, -48
 .L0_1_0_pool_pull_10:
 	cmpb	$0, 24(%rbx)
 	movq	$1, 24(%rbx)
@@ -1402,6 +1643,7 @@ kdr_0_1_0_pool_pull:
 	je	.L0_1_0_pool_pull_9
 .L0_1_0_pool_pull_11:
 	ud2
+	.cfi_endproc
 	.size kdr_0_1_0_pool_pull, . - kdr_0_1_0_pool_pull
 
 # kdr_pool_pull_near
@@ -1411,12 +1653,24 @@ kdr_0_1_0_pool_pull:
 	.hidden kdr_0_1_0_pool_pull_near
 	.type kdr_0_1_0_pool_pull_near, %function
 kdr_0_1_0_pool_pull_near:
+	.cfi_startproc
 	pushq	%r15
+	.cfi_def_cfa_offset 16
+	.cfi_offset %r15, -16
 	pushq	%r14
+	.cfi_def_cfa_offset 24
+	.cfi_offset %r14, -24
 	pushq	%r13
+	.cfi_def_cfa_offset 32
+	.cfi_offset %r13, -32
 	pushq	%r12
+	.cfi_def_cfa_offset 40
+	.cfi_offset %r12, -40
 	pushq	%rbx
+	.cfi_def_cfa_offset 48
+	.cfi_offset %rbx, -48
 	subq	$32, %rsp
+	.cfi_def_cfa_offset 80
 	movq	(%rdi), %rbx
 	movq	$0, (%rdi)
 	movl	$4, %eax
@@ -1531,12 +1785,29 @@ kdr_0_1_0_pool_pull_near:
 	jne	.L0_1_0_pool_pull_near_12
 .L0_1_0_pool_pull_near_10:
 	addq	$32, %rsp
+	.cfi_def_cfa_offset 48
 	popq	%rbx
+	.cfi_def_cfa_offset 40
+	.cfi_restore %rbx
 	popq	%r12
+	.cfi_def_cfa_offset 32
+	.cfi_restore %r12
 	popq	%r13
+	.cfi_def_cfa_offset 24
+	.cfi_restore %r13
 	popq	%r14
+	.cfi_def_cfa_offset 16
+	.cfi_restore %r14
 	popq	%r15
+	.cfi_def_cfa_offset 8
+	.cfi_restore %r15
 	retq
+	.cfi_def_cfa_offset 80
+	.cfi_offset %r15, -16
+	.cfi_offset %r14, -24
+	.cfi_offset %r13, -32
+	.cfi_offset %r12, -40
+	.cfi_offset %rbx, -48
 .L0_1_0_pool_pull_near_11:
 	cmpb	$0, 24(%rbx)
 	movq	$1, 24(%rbx)
@@ -1550,6 +1821,7 @@ kdr_0_1_0_pool_pull_near:
 	je	.L0_1_0_pool_pull_near_10
 .L0_1_0_pool_pull_near_12:
 	ud2
+	.cfi_endproc
 	.size kdr_0_1_0_pool_pull_near, . - kdr_0_1_0_pool_pull_near
 
 # kdr_pool_return
@@ -1559,6 +1831,7 @@ kdr_0_1_0_pool_pull_near:
 	.hidden kdr_0_1_0_pool_return
 	.type kdr_0_1_0_pool_return, %function
 kdr_0_1_0_pool_return:
+	.cfi_startproc
 	movq	(%rdi), %rdx
 	movq	$0, (%rdi)
 	movl	$4, %eax
@@ -1616,6 +1889,7 @@ kdr_0_1_0_pool_return:
 	je	.L0_1_0_pool_return_3
 .L0_1_0_pool_return_5:
 	ud2
+	.cfi_endproc
 	.size kdr_0_1_0_pool_return, . - kdr_0_1_0_pool_return
 
 # kdr_place_return
@@ -1625,6 +1899,7 @@ kdr_0_1_0_pool_return:
 	.hidden kdr_0_1_0_place_return
 	.type kdr_0_1_0_place_return, %function
 kdr_0_1_0_place_return:
+	.cfi_startproc
 	movq	(%rdi), %rdx
 	movq	$0, (%rdi)
 	testq	%rdx, %rdx
@@ -1684,6 +1959,7 @@ kdr_0_1_0_place_return:
 	retq
 .L0_1_0_place_return_5:
 	ud2
+	.cfi_endproc
 	.size kdr_0_1_0_place_return, . - kdr_0_1_0_place_return
 
 	.section .note.GNU-stack, "", %progbits

@@ -1,13 +1,15 @@
-//! How long a pull and its return of a lazy pool take, and how often threads that wait for few
-//! items get one, beside a vector behind a mutex with a condition variable. Of many short rounds,
-//! by turns, the least time and the most turns are told. `KUNDRATU_BENCH_TURNS` says how many turns
-//! all rounds of a thread have, where it isn't 1,000,000.
+//! How long a pull and its return of a lazy pool take, how long its first pulls take, and how often
+//! threads that wait for few items get one, beside two pools as others have them: a vector behind a
+//! mutex with a condition variable, and one beside a fair semaphore. Of many short rounds, by turns,
+//! the least time is told. `KUNDRATU_BENCH_TURNS` says how many turns all rounds of a thread have,
+//! where it isn't 1,000,000.
 use kundratu_pool::{LazyPool, Pool};
+use std::collections::VecDeque;
 use std::env;
 use std::hint::{black_box, spin_loop};
-use std::sync::atomic::{AtomicUsize, Ordering::SeqCst};
-use std::sync::{Barrier, Condvar, Mutex};
-use std::thread;
+use std::sync::atomic::{AtomicBool, AtomicUsize, Ordering::SeqCst};
+use std::sync::{Arc, Barrier, Condvar, Mutex};
+use std::thread::{self, Thread};
 use std::time::{Duration, Instant};
 
 const ITEMS: usize = 4_096;
@@ -54,6 +56,66 @@ impl ByHand {
     }
 }
 
+/// A pool as deadpool has it: a semaphore whose permits go to those that wait in their order, and a
+/// vector behind a mutex.
+struct BySemaphore {
+    semaphore: Mutex<Semaphore>,
+    items: Mutex<Vec<u64>>,
+}
+
+struct Semaphore {
+    permits: usize,
+    waiting: VecDeque<(Arc<AtomicBool>, Thread)>,
+}
+
+impl BySemaphore {
+    fn new(items: usize) -> BySemaphore {
+        let (permits, waiting) = (items, VecDeque::new());
+        let semaphore = Mutex::new(Semaphore { permits, waiting });
+        let items = Mutex::new(vec![0; items]);
+        BySemaphore { semaphore, items }
+    }
+
+    fn acquire(&self) {
+        let mut semaphore = self.semaphore.lock().expect("no panic");
+        if semaphore.permits > 0 {
+            semaphore.permits -= 1;
+            return;
+        }
+        let has_permit = Arc::new(AtomicBool::new(false));
+        let waits = (Arc::clone(&has_permit), thread::current());
+        semaphore.waiting.push_back(waits);
+        drop(semaphore);
+        while !has_permit.load(SeqCst) {
+            thread::park();
+        }
+    }
+
+    fn release(&self) {
+        let mut semaphore = self.semaphore.lock().expect("no panic");
+        let Some((has_permit, thread)) = semaphore.waiting.pop_front() else {
+            semaphore.permits += 1;
+            return;
+        };
+        drop(semaphore);
+        has_permit.store(true, SeqCst);
+        thread.unpark();
+    }
+
+    fn turn(&self) {
+        self.acquire();
+        let item = self.items.lock().expect("no panic").pop();
+        let item = black_box(item.expect("there are as many as permits") + 1);
+        self.items.lock().expect("no panic").push(item);
+        self.release();
+    }
+}
+
+fn fair(items: usize) -> LazyPool<u64, ()> {
+    let fair = LazyPool::builder(items).init(|| Ok(0)).fair();
+    fair.build().expect("there is memory")
+}
+
 fn lazy(items: usize) -> LazyPool<u64, ()> {
     let reset = |number: &mut u64| {
         *number = 0;
@@ -94,9 +156,12 @@ fn least(threads: usize, turns: usize, turn: impl Fn() + Sync) -> f64 {
 
 /// Millions of turns a second of all threads together.
 fn turns_a_second(threads: usize, turns: usize, turn: impl Fn() + Sync) -> f64 {
-    let begun = Instant::now();
+    let (begun, all_run) = (Instant::now(), Barrier::new(threads));
     thread::scope(|scope| {
-        let run = || (0..turns).for_each(|_| turn());
+        let run = || {
+            all_run.wait();
+            (0..turns).for_each(|_| turn());
+        };
         (0..threads).for_each(|_| drop(scope.spawn(run)));
     });
     (threads * turns) as f64 / begun.elapsed().as_micros() as f64
@@ -126,17 +191,46 @@ fn pulls(turns: usize) {
 
 const LIMIT: Duration = Duration::from_secs(60);
 
+/// The least nanoseconds an item of some first pulls, and of the returns and pulls after them.
+fn first_pulls() {
+    println!("first pulls, returns, and pulls again, nanoseconds an item");
+    for items in [4_096, 32_768, 262_144] {
+        let mut least = [f64::INFINITY; 3];
+        for _ in 0..5 {
+            let (pool, mut held) = (lazy(items), Vec::with_capacity(items));
+            let mut pulls = |held: &mut Vec<_>| {
+                let begun = Instant::now();
+                held.extend((0..items).map(|_| pool.pull().expect("one is free")));
+                begun.elapsed()
+            };
+            let first = pulls(&mut held);
+            let begun = Instant::now();
+            held.clear();
+            let times = [first, begun.elapsed(), pulls(&mut held)];
+            for (least, time) in least.iter_mut().zip(times) {
+                *least = least.min(time.as_nanos() as f64 / items as f64);
+            }
+        }
+        println!("{items}: {:.1}, {:.1}, {:.1}", least[0], least[1], least[2]);
+    }
+}
+
 fn waits(turns: usize) {
-    println!("8 threads that wait, millions of turns a second, by turns: lazy pool, by hand");
+    println!("8 threads that wait, millions of turns a second, by turns");
     for items in [1, 2, 3] {
         let (lazy, by_hand) = (lazy(items), ByHand::new(items));
-        let turn = || *black_box(lazy.pull_wait().expect("one comes")) += 1;
+        let (fair, by_semaphore) = (fair(items), BySemaphore::new(items));
         for _ in 0..7 {
-            let ours = turns_a_second(8, turns / 4, turn);
-            let theirs = turns_a_second(8, turns / 4, || by_hand.turn());
+            let turns = |turn: &(dyn Fn() + Sync)| turns_a_second(8, turns / 16, turn);
+            let pulls = |pool: &LazyPool<_, _>| {
+                *black_box(pool.pull_wait().expect("one comes")) += 1;
+            };
             println!(
-                "{items} items: {ours:.1}, {theirs:.1}: {:.2} times",
-                ours / theirs
+                "{items} items: lazy {:.2}, by hand {:.2}; fair {:.2}, by a semaphore {:.2}",
+                turns(&|| pulls(&lazy)),
+                turns(&|| by_hand.turn()),
+                turns(&|| pulls(&fair)),
+                turns(&|| by_semaphore.turn()),
             );
         }
     }
@@ -147,5 +241,6 @@ fn main() {
         turns.parse().expect("KUNDRATU_BENCH_TURNS is a number")
     });
     pulls(turns);
+    first_pulls();
     waits(turns);
 }

@@ -1,12 +1,13 @@
 //! Which places of a fixed number are held. A thread keeps one that it returned, where others may
 //! take it: so a pull is refused only if all places were out at one moment.
+use crate::atomics::{fence, AtomicU64};
+use crate::atomics::{Ordering::AcqRel, Ordering::Acquire, Ordering::Release, Ordering::SeqCst};
 use crate::library::Library;
 use crate::pool::NewError;
 use crate::sys::{Handle, PAGE};
 use crate::thread_slots::ThreadSlots;
 use crate::threads::{self, Number, Owned};
 use std::cell::{Cell, RefCell};
-use std::sync::atomic::{AtomicU64, Ordering::Acquire, Ordering::Release};
 
 /// How many places a thread pulls at one page, if others return them.
 const TOGETHER: isize = 4;
@@ -148,9 +149,13 @@ impl Fixed {
     /// Pulls a place that a thread keeps or that the library has. `None` if all were out at a moment
     /// of the library's refusal: no thread kept a place then, since none did before and after it,
     /// and none kept one between.
+    ///
+    /// A thread keeps a place by a plain write, which it makes known before it looks itself. So of
+    /// two threads that return something and then look for what the other one returned, one finds it.
     #[cold]
     #[inline(never)]
     fn look(&self, handle: &mut Option<Handle>) -> Option<usize> {
+        fence(SeqCst);
         let mut before = self.take_kept();
         loop {
             let count = match before {
@@ -199,7 +204,8 @@ impl ThreadSlot {
 }
 
 /// A place that a thread keeps, or none, and how often it kept one: so others see that it did.
-/// Only the thread puts one there, if there is none. Whoever takes it out leaves the count.
+/// Only the thread puts one there, if there is none. Whoever takes it out leaves the count, and so
+/// makes known what he returned before: who finds none here finds that.
 struct Kept(AtomicU64);
 
 impl Kept {
@@ -218,10 +224,8 @@ impl Kept {
     fn take(&self) -> Result<usize, u64> {
         let mut seen = self.load();
         while seen & Kept::NONE != Kept::NONE {
-            #[cfg(test)]
-            crate::tests::step();
             let empty = seen | Kept::NONE;
-            match self.0.compare_exchange(seen, empty, Acquire, Acquire) {
+            match self.0.compare_exchange(seen, empty, AcqRel, Acquire) {
                 Ok(_) => return Ok((seen & Kept::NONE) as usize),
                 Err(now) => seen = now,
             }
@@ -235,9 +239,7 @@ impl Kept {
         if self.load() == empty {
             return None;
         }
-        #[cfg(test)]
-        crate::tests::step();
-        let seen = self.0.swap(empty, Acquire);
+        let seen = self.0.swap(empty, AcqRel);
         (seen != empty).then_some((seen & Kept::NONE) as usize)
     }
 
@@ -247,8 +249,6 @@ impl Kept {
         let place = place as u64;
         let has_room = self.load() == empty.get() && place < Kept::NONE;
         if has_room {
-            #[cfg(test)]
-            crate::tests::step();
             empty.set(empty.get().wrapping_add(1 << 32));
             self.0.store(empty.get() ^ Kept::NONE | place, Release);
         }
@@ -257,8 +257,6 @@ impl Kept {
 
     #[inline(always)]
     fn load(&self) -> u64 {
-        #[cfg(test)]
-        crate::tests::step();
         self.0.load(Acquire)
     }
 }

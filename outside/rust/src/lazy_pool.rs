@@ -1,16 +1,33 @@
 //! A pool whose items are made when they are first needed, by an initializer that may fail.
+mod builder;
+mod empties;
+mod error;
+mod events;
 #[allow(unsafe_code)]
 mod held;
+mod idle;
+#[allow(unsafe_code)]
+mod places;
+mod queue;
+mod signs;
+mod stock;
+mod tasks;
+mod turn;
 mod waiters;
 
-use crate::slots::{filled, Slots};
-use crate::{fixed::Fixed, guard::Guard, pool::NewError, sys::PAGE};
-use held::{keep_if, Held};
-use std::fmt::{self, Debug, Display, Formatter};
-use std::sync::atomic::{AtomicU8, Ordering::Relaxed};
+use crate::{guard::Guard, or_else::OrElse, pool::NewError, slots::Slots};
+use builder::Calls;
+pub use builder::{Builder, BuilderOf, Manager};
+pub use error::PullError;
+pub use events::{Event, Status};
+use held::{keep_if, Got, Held};
+use idle::{Entry, Times};
+use places::Places;
+use std::fmt::{self, Debug, Formatter};
 use std::time::{Duration, Instant};
-use std::{error::Error, iter, sync::Arc};
-use waiters::{left, Limit, Waiters};
+use std::{iter, sync::Arc};
+use turn::Turn;
+use waiters::{left, Limit};
 
 /// An item that was pulled under a borrow of its [`LazyPool`].
 pub type LazyReusable<'p, T, E> = Guard<&'p LazyPool<T, E>, T>;
@@ -22,28 +39,19 @@ type Pulled<'p, T, E> = Result<LazyReusable<'p, T, E>, PullError<E>>;
 type PulledOwned<T, E> = Result<LazyOwnedReusable<T, E>, PullError<E>>;
 type Judge<T> = Box<dyn Fn(&mut T) -> bool + Send + Sync>;
 
-/// What lies at a place: nothing, or an item.
-const EMPTY: u8 = 0;
-const MADE: u8 = 1;
-/// What the state of a place has beside that while the place is in use.
-const IN_USE: u8 = 2;
-
-/// The states of a page's places, on a cache line of their own.
-#[derive(Default)]
-#[repr(align(64))]
-struct States([AtomicU8; PAGE]);
-
 /// A pool of at most so many items, each made when it is first needed: a pool of connections.
 ///
-/// A free item is preferred to making one. A pull may wait until an item is returned. Who waits
-/// longest needn't come first.
+/// A free item is preferred to making one. A pull may wait until an item is returned, as a thread
+/// or as a task. Who waits longest needn't come first, but in a pool that is
+/// [`fair`](Builder::fair).
 ///
 /// At its end a guard resets its item and returns it. If the reset rejects the item, or if the pool
-/// is closed, the item is dropped, and its place is empty: the pool may make another one there.
+/// is closed, the item is dropped, and its place is empty: the pool may make another one there. How
+/// many there may be stays as it is: a pool isn't resized.
 ///
-/// `init`, `reset`, the check and the drops of items run under no lock of the pool. If one of them
-/// panics, its item is dropped, and its place is empty. One that waits on its own pool can wait for
-/// ever.
+/// `init`, `reset`, the check, the drops of items and what is called at events run under no lock of
+/// the pool. If one of them panics, its item is dropped, or goes back, and its place is free. One
+/// that waits on its own pool can wait for ever.
 ///
 /// # Examples
 ///
@@ -62,30 +70,12 @@ struct States([AtomicU8; PAGE]);
 /// # Ok::<(), Box<dyn std::error::Error>>(())
 /// ```
 pub struct LazyPool<T, E> {
-    items: Slots<Option<T>>,
-    /// The places that are empty, and those with an item: two pools of places over the same
-    /// numbers. Each place is held in at least one of them, and who pulled it from either has it
-    /// alone.
-    kinds: [Fixed; 2],
-    states: Vec<States>,
-    waiters: Waiters,
-    init: Box<dyn Fn() -> Result<T, E> + Send + Sync>,
-    reset: Judge<T>,
-    check: Option<Judge<T>>,
-}
-
-/// How many items of a [`LazyPool`] there are, counted one after another while threads go on.
-#[derive(Clone, Copy, Debug, PartialEq, Eq)]
-#[non_exhaustive]
-pub struct Status {
-    /// How many items there may be at once.
-    pub items: usize,
-    /// How many are made, in use or free.
-    pub made: usize,
-    /// How many are in use, or being made or checked.
-    pub in_use: usize,
-    /// How many threads wait for one.
-    pub waiting: usize,
+    items: Slots<Entry<T>>,
+    places: Places,
+    calls: Calls<T, E>,
+    times: Times,
+    /// How many items are to be there at least.
+    least: usize,
 }
 
 impl<T, E> LazyPool<T, E> {
@@ -94,7 +84,7 @@ impl<T, E> LazyPool<T, E> {
     ///
     /// # Errors
     ///
-    /// `NoItems` if `items` is 0, or `Memory`.
+    /// `NoItems` if `items` is 0, or `Memory`, also if they are 2^32 or more.
     ///
     /// # Examples
     ///
@@ -112,18 +102,28 @@ impl<T, E> LazyPool<T, E> {
         init: impl Fn() -> Result<T, E> + Send + Sync + 'static,
         reset: impl Fn(&mut T) -> bool + Send + Sync + 'static,
     ) -> Result<Self, NewError> {
-        let states = filled(items.div_ceil(PAGE), States::default)?;
-        let [empty, made] = [Fixed::new(items)?, Fixed::new(items)?];
-        while made.pull().is_some() {} // no item is made yet
-        Ok(LazyPool {
-            items: Slots::new((0..items).map(|_| None)).ok_or(NewError::Memory)?,
-            kinds: [empty, made],
-            states,
-            waiters: Waiters::default(),
-            init: Box::new(init),
-            reset: Box::new(reset),
-            check: None,
-        })
+        Self::builder(items).init(init).reset(reset).build()
+    }
+
+    /// Returns a builder of a pool of at most so many items.
+    ///
+    /// # Examples
+    ///
+    /// ```
+    /// use kundratu_pool::LazyPool;
+    /// use std::{fs::File, time::Duration};
+    ///
+    /// let pool = LazyPool::builder(4)
+    ///     .init(|| File::open("/dev/null"))
+    ///     .check(|file| file.metadata().is_ok())
+    ///     .life_time(Duration::from_secs(3_600))
+    ///     .fair()
+    ///     .build()?;
+    /// let file = pool.pull_wait()?;
+    /// # Ok::<(), Box<dyn std::error::Error>>(())
+    /// ```
+    pub fn builder(items: usize) -> BuilderOf<T, E> {
+        BuilderOf::new(items)
     }
 
     /// Checks each free item before it is pulled. If the check returns `false`, the item is
@@ -140,7 +140,8 @@ impl<T, E> LazyPool<T, E> {
     /// ```
     #[must_use]
     pub fn with_check(mut self, check: impl Fn(&mut T) -> bool + Send + Sync + 'static) -> Self {
-        self.check = Some(Box::new(check));
+        self.calls.check = Some(Box::new(check));
+        self.places.mind();
         self
     }
 
@@ -148,13 +149,13 @@ impl<T, E> LazyPool<T, E> {
     ///
     /// # Errors
     ///
-    /// - `AllInUse` if all items were in use at one moment of the call, or some were thrown away
-    ///   meanwhile.
+    /// - `AllInUse` if as many items as there may be were in use at one moment of the call, or being
+    ///   made, checked, reset or dropped. In a fair pool also if others wait.
     /// - `Closed` if the pool is closed.
     /// - `Init` if `init` failed. Then the place is empty.
     #[inline(always)]
     pub fn pull(&self) -> Pulled<'_, T, E> {
-        self.item(self.any().ok_or(PullError::AllInUse)??, None)
+        Held::plain(self).map_or_else(|| self.pull_now(), Ok)
     }
 
     /// Pulls an item as [`pull`](LazyPool::pull) does, with a guard that keeps the pool.
@@ -166,11 +167,31 @@ impl<T, E> LazyPool<T, E> {
         self.pull().map(|guard| guard.owned(self))
     }
 
+    /// Pulls an item as [`pull`](LazyPool::pull) does. If that fails for any reason, this returns a
+    /// value that belongs to no pool, and is dropped at its end.
+    ///
+    /// # Examples
+    ///
+    /// ```
+    /// # use kundratu_pool::LazyPool;
+    /// let pool = LazyPool::<String, ()>::new(1, || Ok(String::new()), |_| true)?;
+    /// let one = pool.pull_or_else(String::new);
+    /// let other = pool.pull_or_else(|| "other".to_string());
+    /// assert!(one.is_pooled() && !other.is_pooled());
+    /// assert_eq!(*other, "other");
+    /// # Ok::<(), kundratu_pool::NewError>(())
+    /// ```
+    pub fn pull_or_else(&self, value: impl FnOnce() -> T) -> OrElse<LazyReusable<'_, T, E>, T> {
+        self.pull()
+            .map_or_else(|_| OrElse::Own(value()), OrElse::Pooled)
+    }
+
     /// Pulls an item that is made and free. `None` if there is none that the check keeps, or if
-    /// the pool is closed.
+    /// the pool is closed. In a fair pool also if others wait.
     pub fn try_pull(&self) -> Option<LazyReusable<'_, T, E>> {
-        let mut made = iter::from_fn(|| self.open(MADE)?.ok());
-        made.find_map(|mut held| self.is_kept(&mut held).then(|| held.guard()))
+        let may_pull = || !self.is_closed() && !self.places.others_come_first();
+        let mut made = iter::from_fn(|| may_pull().then(|| Held::made(self)).flatten());
+        made.find_map(|mut held| self.is_kept(&mut held).then(|| self.given(held)))
     }
 
     /// Pulls an item as [`try_pull`](LazyPool::try_pull) does, with a guard that keeps the pool.
@@ -184,8 +205,9 @@ impl<T, E> LazyPool<T, E> {
     /// # Errors
     ///
     /// `Closed` or `Init`, as `pull`.
+    #[inline(always)]
     pub fn pull_wait(&self) -> Pulled<'_, T, E> {
-        self.pull_until(None)
+        Held::plain(self).map_or_else(|| self.pull_until(None), Ok)
     }
 
     /// Pulls an item as [`pull_wait`](LazyPool::pull_wait) does, with a guard that keeps the pool.
@@ -203,10 +225,12 @@ impl<T, E> LazyPool<T, E> {
     ///
     /// # Errors
     ///
-    /// - `TimedOut` if a last try after that time found all items in use, or none made.
+    /// - `TimedOut` if a last try after that time was refused as a `pull`, or found none made.
     /// - `Closed` or `Init`, as `pull`.
+    #[inline(always)]
     pub fn pull_timeout(&self, time: Duration) -> Pulled<'_, T, E> {
-        self.pull_until(Instant::now().checked_add(time))
+        let limit = || Instant::now().checked_add(time);
+        Held::plain(self).map_or_else(|| self.pull_until(limit()), Ok)
     }
 
     /// Pulls an item as [`pull_timeout`](LazyPool::pull_timeout) does, with a guard that keeps the
@@ -219,97 +243,68 @@ impl<T, E> LazyPool<T, E> {
         self.pull_timeout(time).map(|guard| guard.owned(self))
     }
 
-    /// Makes items until so many are made, or no place is empty. Those that are made are counted at
-    /// its beginning.
-    ///
-    /// # Errors
-    ///
-    /// `Init` at the first error of `init`, or `Closed`.
-    pub fn fill(&self, items: usize) -> Result<(), PullError<E>> {
-        let missing = self.status().made..items.min(self.items());
-        let mut empty = missing.map_while(|_| self.open(EMPTY));
-        empty.try_for_each(|held| self.make(&mut held?, None))
-    }
-
-    /// Drops the items that are free. Their places are empty then.
-    pub fn clear(&self) {
-        let free = (0..self.items()).map_while(|_| Held::pull(self, MADE));
-        free.for_each(|mut held| drop(held.item().take()));
-    }
-
     /// Closes the pool. From now on its pulls fail, also those that wait. The items that are free
     /// are dropped, and those in use when they come back.
     pub fn close(&self) {
-        self.waiters.close();
+        self.places.close();
         self.clear();
     }
 
     /// Returns whether the pool is closed.
     pub fn is_closed(&self) -> bool {
-        self.waiters.is_closed()
+        self.places.is_closed()
     }
 
-    /// Returns how many items there may be, are made, are in use, and are waited for.
-    pub fn status(&self) -> Status {
-        let has = |bit| move |place: &usize| self.state(*place).load(Relaxed) & bit != 0;
-        Status {
-            items: self.items(),
-            made: (0..self.items()).filter(has(MADE)).count(),
-            in_use: (0..self.items()).filter(has(IN_USE)).count(),
-            waiting: self.waiters.count(),
-        }
+    /// Ends the pool, and returns its items.
+    pub fn into_inner(self) -> Vec<T> {
+        self.items
+            .into_values()
+            .filter_map(|entry| entry.item)
+            .collect()
     }
 
-    /// Returns the state of a place: its kind, and whether it is in use.
-    fn state(&self, place: usize) -> &AtomicU8 {
-        &self.states[place / PAGE].0[place % PAGE]
-    }
-
-    fn items(&self) -> usize {
-        self.kinds[0].places()
+    /// Pulls an item, or makes one.
+    #[inline(never)]
+    fn pull_now(&self) -> Pulled<'_, T, E> {
+        self.item(Held::any(self).ok_or(PullError::AllInUse)??, None)
     }
 
     /// Pulls an item, or waits for one until the limit.
-    #[inline(always)]
+    #[inline(never)]
     fn pull_until(&self, limit: Limit) -> Pulled<'_, T, E> {
-        let wait = || self.waiters.wait(limit, || self.any());
-        self.item(self.any().or_else(wait).ok_or(PullError::TimedOut)??, limit)
+        let held = Held::any(self).or_else(|| self.wait(limit));
+        self.item(held.ok_or(PullError::TimedOut)??, limit)
     }
 
-    /// Pulls a place, one with an item if it can. `None` if all are in use.
-    #[inline(always)]
-    fn any(&self) -> Option<Result<Held<'_, T, E>, PullError<E>>> {
-        self.open(MADE).or_else(|| self.later().map(Ok))
-    }
-
-    /// Pulls a place of this kind, if the pool isn't closed. `None` if there is none.
-    #[inline(always)]
-    fn open(&self, kind: u8) -> Option<Result<Held<'_, T, E>, PullError<E>>> {
-        if self.is_closed() {
-            return Some(Err(PullError::Closed));
-        }
-        Held::pull(self, kind).map(Ok)
-    }
-
-    /// Pulls an empty place. If there is none, an item may have been returned meanwhile.
     #[cold]
-    fn later(&self) -> Option<Held<'_, T, E>> {
-        Held::pull(self, EMPTY).or_else(|| Held::pull(self, MADE))
+    fn wait(&self, limit: Limit) -> Got<'_, T, E> {
+        self.emit(Event::Waits);
+        if self.places.is_fair() {
+            return Turn::new(self).wait(limit);
+        }
+        Held::of(self, self.places.wait(limit))
     }
 
-    /// Returns whether a place has an item that the check keeps.
+    /// Returns whether a place has an item that is kept: not too old, and by the check.
     fn is_kept(&self, held: &mut Held<'_, T, E>) -> bool {
-        let check = |item: &mut T| self.check.as_ref().is_none_or(|check| check(item));
-        keep_if(held.item(), check)
+        let is_over = self.times.is_over(held.entry());
+        let check = |item: &mut T| self.calls.check.as_ref().is_none_or(|check| check(item));
+        keep_if(&mut held.entry().item, |item| !is_over && check(item))
     }
 
     /// Returns the item of a place, or makes one if there is none that is kept.
-    #[inline(always)]
-    fn item<'p>(&self, mut held: Held<'p, T, E>, limit: Limit) -> Pulled<'p, T, E> {
+    fn item<'p>(&'p self, mut held: Held<'p, T, E>, limit: Limit) -> Pulled<'p, T, E> {
         if !self.is_kept(&mut held) {
             self.make(&mut held, limit)?;
         }
-        Ok(held.guard())
+        Ok(self.given(held))
+    }
+
+    /// Returns the guard of a place with an item, which was pulled.
+    fn given<'p>(&'p self, held: Held<'p, T, E>) -> LazyReusable<'p, T, E> {
+        let guard = held.guard();
+        self.emit(Event::Pulled);
+        guard
     }
 
     /// Makes the item of an empty place, if the limit isn't over.
@@ -318,8 +313,20 @@ impl<T, E> LazyPool<T, E> {
         if left(limit).is_zero() {
             return Err(PullError::TimedOut);
         }
-        *held.item() = Some((self.init)()?);
-        Ok(())
+        self.put_made(held, (self.calls.init)())
+    }
+
+    /// Puts what an initializer made to a place that is empty.
+    fn put_made(&self, held: &mut Held<'_, T, E>, made: Result<T, E>) -> Result<(), PullError<E>> {
+        let is_made = made.is_ok();
+        let made = made.map(|item| self.put(held, item));
+        self.emit(if is_made { Event::Made } else { Event::Failed });
+        Ok(made?)
+    }
+
+    fn put(&self, held: &mut Held<'_, T, E>, item: T) {
+        held.entry().item = Some(item);
+        self.times.made(held.entry());
     }
 }
 
@@ -329,52 +336,6 @@ impl<T, E> Debug for LazyPool<T, E> {
     }
 }
 
-/// Why a pull of a [`LazyPool`] gave no item.
-///
-/// ```
-/// # use kundratu_pool::{LazyPool, PullError};
-/// let pool = LazyPool::new(1, || "x".parse::<u32>(), |_| true)?;
-/// match pool.pull() {
-///     Err(PullError::Init(error)) => assert_eq!(error.to_string(), "invalid digit found in string"),
-///     _ => unreachable!("it isn't a number"),
-/// }
-/// # Ok::<(), kundratu_pool::NewError>(())
-/// ```
-#[derive(Clone, Copy, Debug, PartialEq, Eq)]
-#[non_exhaustive]
-pub enum PullError<E> {
-    /// All items were in use.
-    AllInUse,
-    /// The limit of time is over.
-    TimedOut,
-    /// The pool is closed.
-    Closed,
-    /// The initializer failed, with this error.
-    Init(E),
-}
-
-impl<E: Error + 'static> Error for PullError<E> {
-    fn source(&self) -> Option<&(dyn Error + 'static)> {
-        let PullError::Init(error) = self else {
-            return None;
-        };
-        Some(error)
-    }
-}
-
-impl<E> Display for PullError<E> {
-    fn fmt(&self, f: &mut Formatter<'_>) -> fmt::Result {
-        f.write_str(match self {
-            PullError::AllInUse => "all items are in use",
-            PullError::TimedOut => "no item was free in time",
-            PullError::Closed => "the pool is closed",
-            PullError::Init(_) => "the initializer failed",
-        })
-    }
-}
-
-impl<E> From<E> for PullError<E> {
-    fn from(error: E) -> Self {
-        PullError::Init(error)
-    }
-}
+#[cfg(test)]
+#[path = "../unit_tests/lazy_steps.rs"]
+mod tests;

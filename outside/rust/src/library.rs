@@ -45,6 +45,8 @@ impl Library {
 
     #[inline(never)]
     fn with_shared<A>(&self, call: impl FnOnce(&mut Option<Handle>) -> A) -> A {
+        #[cfg(test)]
+        crate::tests::locks();
         call(&mut self.shared.lock().unwrap_or_else(PoisonError::into_inner))
     }
 
@@ -60,6 +62,8 @@ impl Library {
         } else {
             self.with_shared(|shared| kdr_place_pull(shared, page, &mut place));
         }
+        #[cfg(test)]
+        crate::tests::looked(place.0 != NO_PLACE);
         (place.0 != NO_PLACE).then_some(place.0)
     }
 
@@ -71,7 +75,7 @@ impl Library {
     #[inline(always)]
     pub(crate) unsafe fn give_back(&self, own: &mut Option<Handle>, place: usize) {
         #[cfg(test)]
-        crate::tests::step();
+        crate::tests::returns();
         // SAFETY: the shared handle is of this pool, and the caller says the rest.
         let give_back = |handle: &mut _| unsafe { kdr_place_return(handle, &mut Place(place)) };
         if own.is_some() {

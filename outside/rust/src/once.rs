@@ -31,6 +31,8 @@ impl<T> OnceBox<T> {
 
     /// Sets the value if none is set, and returns the one that is. `None` if memory is refused.
     pub(crate) fn set(&self, value: T) -> Option<&T> {
+        #[cfg(test)]
+        crate::tests::sets();
         let made = Box::into_raw(boxed(value)?);
         let result = self
             .set

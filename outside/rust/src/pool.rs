@@ -1,6 +1,7 @@
 //! The pool of a fixed number of items.
 use crate::fixed::Fixed;
 use crate::guard::{Guard, Source};
+use crate::or_else::OrElse;
 use crate::slots::{Slot, Slots};
 use std::collections::TryReserveError;
 use std::fmt::{self, Debug, Display, Formatter};
@@ -15,7 +16,12 @@ pub type OwnedReusable<T, R = Reset<T>> = Guard<Arc<Pool<T, R>>, T>;
 
 /// A pool of a fixed number of items, all made at first.
 ///
-/// A pull waits for no other one, and asks for no memory, but where [what it costs](crate) says so.
+/// A pull waits for no other one, and asks for no memory, but where
+/// [what it costs](crate::design) says so.
+///
+/// A return is a plain write, which all calls of pools see as soon as it has ended. Before a thread
+/// that returned an item reads a flag of your own, by which others say that they wait for one, put
+/// [`fence(SeqCst)`](std::sync::atomic::fence) there.
 pub struct Pool<T, R = Reset<T>> {
     places: Fixed,
     items: Slots<T>,
@@ -69,6 +75,27 @@ impl<T, R: Fn(&mut T)> Pool<T, R> {
     #[inline(always)]
     pub fn pull_owned(self: &Arc<Self>) -> Option<OwnedReusable<T, R>> {
         self.pull().map(|guard| guard.owned(self))
+    }
+
+    /// Pulls an item as [`pull`](Pool::pull) does. If all are held, this returns a value that belongs
+    /// to no pool, and is dropped at its end without a reset.
+    ///
+    /// ```
+    /// # use kundratu_pool::Pool;
+    /// let pool = Pool::<String>::new(1, String::new, |text| text.clear())?;
+    /// let one = pool.pull_or_else(String::new);
+    /// let other = pool.pull_or_else(|| "other".to_string());
+    /// assert!(one.is_pooled() && !other.is_pooled());
+    /// # Ok::<(), kundratu_pool::NewError>(())
+    /// ```
+    pub fn pull_or_else(&self, value: impl FnOnce() -> T) -> OrElse<Reusable<'_, T, R>, T> {
+        self.pull()
+            .map_or_else(|| OrElse::Own(value()), OrElse::Pooled)
+    }
+
+    /// Ends the pool, and returns its items.
+    pub fn into_inner(self) -> Vec<T> {
+        self.items.into_values().collect()
     }
 
     /// Returns the number of items.

@@ -25,6 +25,17 @@ impl<V> Slots<V> {
         Some(Slots(slots))
     }
 
+    /// Returns how many bytes are free behind the last slot.
+    #[cfg(test)]
+    pub(crate) fn room(&self) -> usize {
+        (self.0.capacity() - self.0.len()) * size_of::<V>()
+    }
+
+    /// Returns the values, in their order.
+    pub(crate) fn into_values(self) -> impl Iterator<Item = V> {
+        self.0.into_iter().map(|slot| slot.0.into_inner())
+    }
+
     /// Returns the slot of a place.
     #[inline(always)]
     pub(crate) fn slot(&self, place: usize) -> &Slot<V> {

@@ -1,23 +1,35 @@
-//! The calls of the C library that this crate makes, as `kundratu_pool.h` declares and describes
-//! them. What is an empty handle to C is `None` here.
-use std::{ffi::c_void, ptr::NonNull};
+//! The calls of the library that this crate makes, as `kundratu_pool.h` describes them. What is an
+//! empty handle to C is `None` here.
+
+/// Takes the proved calls for these targets, and calls in Rust for others or by the feature.
+macro_rules! proved_for {
+    ($($target:meta),*) => {
+        #[cfg_attr(all(not(feature = "portable"), any($($target),*)), path = "sys/proved.rs")]
+        #[cfg_attr(not(all(not(feature = "portable"), any($($target),*))), path = "sys/portable.rs")]
+        mod calls;
+    };
+}
+
+proved_for!(
+    all(
+        target_os = "linux",
+        target_arch = "x86_64",
+        target_pointer_width = "64"
+    ),
+    all(
+        target_os = "linux",
+        target_arch = "aarch64",
+        target_pointer_width = "64",
+        target_endian = "little"
+    ),
+    all(target_os = "windows", target_arch = "x86_64"),
+    all(target_os = "macos", target_arch = "x86_64")
+);
+
+pub use calls::{kdr_place_pull, kdr_pool_new, kdr_pool_pull_near, kdr_pool_share, Handle};
 
 /// How many places a page has.
 pub(crate) const PAGE: usize = 32;
-
-/// An open handle of a pool. At its end it is closed, and a place that it holds is returned.
-#[repr(transparent)]
-pub struct Handle(NonNull<c_void>);
-
-// SAFETY: it is proved of the library: its handle, in `crates/fixed_pool_c`, is `Send`.
-unsafe impl Send for Handle {}
-
-impl Drop for Handle {
-    fn drop(&mut self) {
-        // The call closes it, and leaves `None`.
-        kdr_pool_drop(&mut Some(Handle(self.0)));
-    }
-}
 
 /// The number of an empty place.
 pub const NO_PLACE: usize = usize::MAX;
@@ -26,60 +38,6 @@ pub const NO_PLACE: usize = usize::MAX;
 #[repr(transparent)]
 pub struct Place(pub usize);
 
-/// A place as the calls have it: one more than its number, or 0 if it is empty, and the tag of its
-/// pool. This crate knows whose a place is, so all its pools have the tag 0.
-#[repr(C)]
-struct RawPlace {
-    after: usize,
-    tag: usize,
-}
-
-impl RawPlace {
-    #[inline(always)]
-    fn of(place: &Place) -> RawPlace {
-        let after = place.0.wrapping_add(1);
-        RawPlace { after, tag: 0 }
-    }
-
-    #[inline(always)]
-    fn number(&self) -> usize {
-        self.after.wrapping_sub(1)
-    }
-}
-
-// SAFETY: the calls are proved for each pointer that is valid, and for each handle that is empty or
-// was left by a call: only the calls make a handle, and it can't be copied. A mutable borrow is the
-// only one of its handle. The last call isn't safe: the place has to be out of the handle's pool.
-#[allow(missing_docs)]
-unsafe extern "C" {
-    #[link_name = "kdr_0_1_0_handle_new"]
-    safe fn handle_new(items: usize, tag: usize, out: &mut Option<Handle>) -> u32;
-    #[link_name = "kdr_0_1_0_handle_share"]
-    pub safe fn kdr_pool_share(handle: &mut Option<Handle>, out: &mut Option<Handle>) -> u32;
-    #[link_name = "kdr_0_1_0_pool_pull_near"]
-    pub safe fn kdr_pool_pull_near(own: &mut Option<Handle>, page: usize, out: &mut usize) -> u32;
-    #[link_name = "kdr_0_1_0_pool_drop"]
-    pub safe fn kdr_pool_drop(handle: &mut Option<Handle>) -> u32;
-    #[link_name = "kdr_0_1_0_place_pull"]
-    safe fn place_pull(handle: &mut Option<Handle>, page: usize, out: &mut RawPlace) -> u32;
-    #[link_name = "kdr_0_1_0_place_return"]
-    fn place_return(handle: &mut Option<Handle>, place: &mut RawPlace) -> u32;
-}
-
-/// Makes a pool of so many places. Its first handle goes to `out`, which was empty.
-pub fn kdr_pool_new(items: usize, out: &mut Option<Handle>) -> u32 {
-    handle_new(items, 0, out)
-}
-
-/// Takes a place of the handle's pool, at this page first. It goes to `out`, which was empty.
-#[inline(always)]
-pub fn kdr_place_pull(handle: &mut Option<Handle>, page: usize, out: &mut Place) -> u32 {
-    let mut raw = RawPlace::of(out);
-    let answer = place_pull(handle, page, &mut raw);
-    out.0 = raw.number();
-    answer
-}
-
 /// Returns a place, which is empty from then on.
 ///
 /// # Safety
@@ -87,11 +45,11 @@ pub fn kdr_place_pull(handle: &mut Option<Handle>, page: usize, out: &mut Place)
 /// The place is out of the handle's pool.
 #[inline(always)]
 pub unsafe fn kdr_place_return(handle: &mut Option<Handle>, place: &mut Place) -> u32 {
-    let mut raw = RawPlace::of(place);
-    // SAFETY: as of this function.
-    let answer = unsafe { place_return(handle, &mut raw) };
-    place.0 = raw.number();
-    answer
+    // SAFETY: as of this function. The call in Rust is safe.
+    #[allow(unused_unsafe)]
+    unsafe {
+        calls::kdr_place_return(handle, place)
+    }
 }
 
 /// Creates a pool of the library, of so many places, and opens these handles of it. `None` if

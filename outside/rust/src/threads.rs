@@ -2,6 +2,9 @@
 //!
 //! While a thread runs, no other one has its number. It is a place of a pool of the proved library,
 //! which the thread holds from its first call to its end.
+#[cfg(all(target_os = "linux", target_env = "gnu"))]
+mod late;
+
 use crate::growing::Growing;
 use crate::refuse;
 use crate::sys::{kdr_pool_new, kdr_pool_pull_near, kdr_pool_share, Handle};
@@ -24,8 +27,8 @@ const NONE: usize = NUMBERS + 1;
 const WITHIN: usize = NUMBERS + 2;
 const ENDED: usize = NUMBERS + 3;
 
-/// After so many calls a thread that came when all numbers were out asks again.
-const CALLS: u32 = 64;
+/// A thread that came when all numbers were out asks again at each such call.
+pub(crate) const CALLS: u32 = 64;
 
 thread_local! {
     /// The thread's number, or one of the four above.
@@ -92,7 +95,7 @@ fn find() -> usize {
     match KNOWN.get() {
         NONE if left > 0 => LEFT.set(left - 1),
         UNKNOWN | NONE => {
-            LEFT.set(CALLS);
+            LEFT.set(CALLS - 1);
             KNOWN.set(WITHIN);
             // Of a holder that has ended there is no number any more.
             KNOWN.set(HOLDER.try_with(Holder::pull).unwrap_or(ENDED));
@@ -141,34 +144,54 @@ struct Holder {
 static GROUPS_OF_NUMBERS: [Mutex<Option<Handle>>; GROUPS + 1] =
     [const { Mutex::new(None) }; GROUPS + 1];
 
-impl Holder {
-    /// Pulls a number of the first group that has one. The end of its handle returns it.
-    fn pull(&self) -> usize {
-        let sizes = iter::once(0).chain((0..GROUPS).map(|group| FIRST << group));
-        for (group, before) in GROUPS_OF_NUMBERS.iter().zip(sizes) {
-            let first = &mut *group.lock().unwrap_or_else(PoisonError::into_inner);
-            kdr_pool_new(before.max(FIRST), first); // it is left alone if it has a pool
-            let (mut number, mut own) = (NUMBERS, None);
-            kdr_pool_share(first, &mut own);
-            kdr_pool_pull_near(&mut own, 0, &mut number);
-            if number < NUMBERS {
-                self.handle.replace(own);
-                return before + number;
-            }
+/// Pulls a number of the first group that has one. The end of this handle of it returns it.
+pub(crate) fn pull_number(handle: &mut Option<Handle>) -> Option<usize> {
+    let sizes = iter::once(0).chain((0..GROUPS).map(|group| FIRST << group));
+    for (group, before) in GROUPS_OF_NUMBERS.iter().zip(sizes) {
+        let first = &mut *group.lock().unwrap_or_else(PoisonError::into_inner);
+        kdr_pool_new(before.max(FIRST), first); // it is left alone if it has a pool
+        let mut number = NUMBERS;
+        kdr_pool_share(first, handle);
+        kdr_pool_pull_near(handle, 0, &mut number);
+        if number < NUMBERS {
+            return Some(before + number);
         }
-        NONE
+        *handle = None;
+    }
+    None
+}
+
+impl Holder {
+    /// Pulls a number for the thread, whose end returns it.
+    fn pull(&self) -> usize {
+        #[cfg(all(target_os = "linux", target_env = "gnu"))]
+        late::watch();
+        pull_number(&mut self.handle.borrow_mut()).unwrap_or(NONE)
+    }
+
+    /// Returns what the thread keeps, and then its number.
+    fn end(&self) {
+        let number = Number::new(KNOWN.replace(ENDED));
+        let pools = self.pools.take().into_iter();
+        for pool in pools.filter_map(|pool| pool.upgrade()) {
+            pool.return_kept(&number);
+        }
+        self.handle.take();
     }
 }
 
 impl Drop for Holder {
-    /// Returns what the thread keeps, and then its number.
     fn drop(&mut self) {
-        let number = Number::new(KNOWN.replace(ENDED));
-        let pools = self.pools.get_mut().drain(..);
-        for pool in pools.filter_map(|pool| pool.upgrade()) {
-            pool.return_kept(&number);
-        }
+        #[cfg(all(target_os = "linux", target_env = "gnu"))]
+        late::forget();
+        self.end();
     }
+}
+
+/// Ends what a thread has that came after the ends of its thread locals.
+#[cfg(all(target_os = "linux", target_env = "gnu"))]
+fn end_late() {
+    let _ = HOLDER.try_with(Holder::end);
 }
 
 /// Notes a pool where this thread keeps places, until its end. `None` if memory is refused.

@@ -1,10 +1,12 @@
 //! When a `LinearObjectPool` makes items: one at a time, where those that were made are held or
 //! kept by other threads.
-use kundratu_pool::LinearObjectPool;
-use std::collections::VecDeque;
+use kundratu_pool::{LinearObjectPool, LinearReusable};
+use std::collections::{HashSet, VecDeque};
+use std::iter;
+use std::ops::Range;
 use std::panic::{catch_unwind, AssertUnwindSafe};
 use std::sync::atomic::{AtomicUsize, Ordering::SeqCst};
-use std::sync::{mpsc, Arc, Mutex};
+use std::sync::{mpsc, Arc, Barrier, Mutex};
 use std::thread;
 use std::time::Duration;
 
@@ -205,6 +207,136 @@ fn an_item_whose_making_panics_is_made_at_a_later_pull() {
         right,
         "what was never made isn't reset"
     );
+}
+
+/// What is free is pulled before an item is made at a place whose `init` panicked.
+#[test]
+fn a_place_whose_init_panicked_waits_for_a_pull_that_makes_an_item() {
+    let calls = Arc::new(AtomicUsize::new(0));
+    let count = Arc::clone(&calls);
+    let init = move || assert_ne!(count.fetch_add(1, SeqCst) % 10, 3, "on purpose");
+    let pool = LinearObjectPool::new(init, |()| {});
+    let pull = || catch_unwind(AssertUnwindSafe(|| pool.pull())).ok();
+    let items: Vec<_> = (0..40).filter_map(|_| pull()).collect();
+    assert_eq!((items.len(), calls.load(SeqCst)), (36, 40));
+    in_a_thread(move || drop(items));
+    let _items: Vec<_> = (0..36).map(|_| pull()).collect();
+    assert_eq!(calls.load(SeqCst), 40, "one was made beside free ones");
+    assert!(pull().is_some());
+    assert_eq!(calls.load(SeqCst), 41);
+}
+
+/// How many items are free for this thread: so many that a pull makes one.
+fn count_free(pool: &LinearObjectPool<Arc<()>>, calls: &AtomicUsize) -> usize {
+    let before = calls.load(SeqCst);
+    let items = iter::repeat_with(|| pool.pull()).take_while(|_| calls.load(SeqCst) == before);
+    items.collect::<Vec<_>>().len()
+}
+
+/// How many of so many items a thread keeps that has done this with them, and is still there.
+fn kept<'p>(
+    items: usize,
+    act: impl FnOnce(&'p LinearObjectPool<Arc<()>>, Vec<Item<'p>>) -> Vec<Item<'p>> + Send,
+    (pool, calls): (&'p LinearObjectPool<Arc<()>>, &AtomicUsize),
+) -> usize {
+    let all: Vec<_> = (0..items).map(|_| pool.pull()).collect();
+    let [has_acted, may_end] = [(); 2].map(|()| Barrier::new(2));
+    thread::scope(|scope| {
+        let thread = scope.spawn(|| {
+            let held = act(pool, all);
+            has_acted.wait();
+            may_end.wait();
+            held.len()
+        });
+        has_acted.wait();
+        let free = count_free(pool, calls);
+        may_end.wait();
+        items - free - thread.join().expect("it ends")
+    })
+}
+
+type Item<'p> = LinearReusable<'p, Arc<()>>;
+
+#[test]
+fn a_thread_keeps_eight_of_what_it_returns() {
+    for count in (0..30).chain([1_000]) {
+        let (pool, _one, calls) = counting_pool();
+        let kept = kept(
+            count,
+            |_, items| items.into_iter().take(0).collect(),
+            (&pool, &calls),
+        );
+        assert_eq!(kept, count.min(KEPT), "of {count}");
+    }
+}
+
+/// After 1,024 returns a thread returns what it keeps but one with each return that finds no room.
+#[test]
+fn a_thread_that_only_returns_returns_eight_at_a_time() {
+    let kept_of = |count| {
+        let (pool, _one, calls) = counting_pool();
+        kept(
+            count,
+            |_, items| items.into_iter().take(0).collect(),
+            (&pool, &calls),
+        )
+    };
+    let all = |counts: Range<usize>| counts.map(kept_of).collect::<Vec<_>>();
+    assert_eq!(all(1_025..1_031), [KEPT; 6]);
+    assert_eq!(
+        all(1_040..1_048).into_iter().collect::<HashSet<_>>(),
+        (1..=KEPT).collect()
+    );
+}
+
+/// Pulls so many items one after the other.
+fn pull_many<'p>(pool: &'p LinearObjectPool<Arc<()>>, count: usize) -> Vec<Item<'p>> {
+    (0..count).map(|_| pool.pull()).collect()
+}
+
+/// What is returned by a thread that ends is all free.
+fn return_all(items: Vec<Item<'_>>) {
+    in_a_thread(|| drop(items));
+}
+
+/// After 1,024 pulls of what others returned a thread pulls seven ahead.
+#[test]
+fn a_thread_that_only_pulls_pulls_seven_ahead() {
+    let kept_of = |count: usize| {
+        let (pool, _one, calls) = counting_pool();
+        let act = |pool, items| {
+            return_all(items);
+            pull_many(pool, count)
+        };
+        kept(1_500, act, (&pool, &calls))
+    };
+    assert_eq!([500, 1_000, 1_023].map(kept_of), [0; 3]);
+    let later: HashSet<_> = (1_100..1_108).map(kept_of).collect();
+    assert_eq!(later, (0..KEPT - 1).collect());
+}
+
+/// A thread that comes later has the slot of one that has ended, and counts anew.
+#[test]
+fn a_thread_does_not_count_what_another_one_pulled() {
+    let (pool, _one, calls) = counting_pool();
+    let act = |pool: &'static LinearObjectPool<Arc<()>>, items| {
+        return_all(items);
+        in_a_thread(|| return_all(pull_many(pool, 900)));
+        pull_many(pool, 900)
+    };
+    let pool: &'static _ = Box::leak(Box::new(pool));
+    assert_eq!(kept(1_500, act, (pool, &calls)), 0);
+    // Neither does it count on after it returned some.
+    let (pool, _one, calls) = counting_pool();
+    let act = |pool, items| {
+        return_all(items);
+        let first = pull_many(pool, 900);
+        let mut second = pull_many(pool, 20);
+        drop(first);
+        second.extend(pull_many(pool, 900));
+        second
+    };
+    assert_eq!(kept(2_500, act, (&pool, &calls)), 0);
 }
 
 #[test]

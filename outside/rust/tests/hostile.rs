@@ -1,11 +1,13 @@
 //! What programs do that mean no good: guards in thread locals and channels, resets that drop
 //! guards, items of odd sizes, panics, and more threads than there are processors.
-use kundratu_pool::{LinearObjectPool, LinearOwnedReusable, OwnedReusable, Pool};
+use kundratu_pool::{LinearObjectPool, LinearOwnedReusable, MutexObjectPool, MutexOwnedReusable};
+use kundratu_pool::{NoneObjectPool, OwnedReusable, Pool};
 use std::cell::RefCell;
 use std::collections::HashSet;
 use std::panic::{catch_unwind, AssertUnwindSafe};
 use std::sync::atomic::{AtomicBool, AtomicUsize, Ordering::SeqCst};
 use std::sync::{mpsc, Arc, Barrier, LazyLock, Mutex, OnceLock};
+use std::time::Duration;
 use std::{iter, mem, thread};
 
 /// An item that tells whether two hold it.
@@ -132,6 +134,32 @@ fn a_reset_drops_items_of_its_own_pool() {
     );
 }
 
+/// A reset of a stack pool runs without its lock, so it may drop an item of that pool.
+#[test]
+fn a_reset_drops_an_item_of_its_own_stack_pool() {
+    struct Stacked(Option<Box<MutexOwnedReusable<Stacked>>>);
+    let (tell, done) = mpsc::channel();
+    thread::spawn(move || {
+        let pool = MutexObjectPool::new(|| Stacked(None), |item| item.0 = None);
+        let pool = Arc::new(pool);
+        let mut item = pool.pull_owned();
+        item.0 = Some(Box::new(pool.pull_owned()));
+        drop(item);
+        tell.send(()).expect("somebody waits");
+    });
+    let ended = done.recv_timeout(Duration::from_secs(60));
+    assert_eq!(ended, Ok(()), "it hangs");
+}
+
+#[test]
+fn a_pool_that_keeps_nothing_calls_init_once_a_pull() {
+    let made = Arc::new(AtomicUsize::new(0));
+    let count = Arc::clone(&made);
+    let pool = Arc::new(NoneObjectPool::new(move || count.fetch_add(1, SeqCst)));
+    assert_eq!([*pool.pull(), *pool.pull_owned()], [0, 1]);
+    assert_eq!(made.load(SeqCst), 2);
+}
+
 /// The last owners of two pools.
 #[allow(dead_code)]
 struct Last(
@@ -252,8 +280,8 @@ fn an_init_that_panics_leaves_nothing_behind() {
     );
 }
 
-/// A thread that only pulls takes places ahead, and makes the items of those whose `init` panicked
-/// before. Such an `init` may fill what the thread keeps.
+/// A thread that only pulls takes places ahead. Some items are made at places whose `init` panicked
+/// before, by calls that pull and return items themselves.
 #[test]
 fn an_init_may_return_items_while_places_are_pulled_ahead() {
     const DEEP: usize = 600;

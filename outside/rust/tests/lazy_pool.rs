@@ -72,6 +72,34 @@ fn a_made_item_is_preferred_wherever_it_lies() {
     }
 }
 
+/// After some pulls that made items, so that no look for a free one is made any more.
+#[test]
+fn an_item_that_came_back_is_preferred_to_making_one() {
+    for before in 0..4 {
+        let pool = numbered(500);
+        let mut held: Vec<_> = (0..before).map(|_| pool.pull()).collect();
+        for made in before + 1..before + 100 {
+            held.push(pool.pull());
+            drop(held.swap_remove((made * 7) % held.len()));
+            held.push(pool.pull());
+            assert_eq!((counts(&pool), held.len()), ((made, made), made));
+        }
+    }
+}
+
+/// The same, where another thread returns it.
+#[test]
+fn an_item_that_another_thread_returned_is_preferred() {
+    let pool = numbered(500);
+    let mut held: Vec<_> = (0..50).map(|_| pool.pull().ok()).collect();
+    for at in 0..50 {
+        let item = held[at].take();
+        std::thread::scope(|scope| drop(scope.spawn(|| drop(item))));
+        held[at] = pool.pull().ok();
+        assert_eq!(counts(&pool), (50, 50));
+    }
+}
+
 #[test]
 fn each_place_is_had_once_and_then_none() {
     for items in [1, 2, 31, 32, 33, 100, 300] {

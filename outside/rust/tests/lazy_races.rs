@@ -1,5 +1,5 @@
-//! Eight threads that wait for two items of a lazy pool, in rounds: each round is over only if none
-//! is left waiting beside a free place. As in `races.rs`, threads and barriers are C's, so that
+//! Eight threads that wait for two items of a lazy pool, in rounds, in any order and in a fair one:
+//! each round is over only if none is left waiting beside a free place. As in `races.rs`, threads and barriers are C's, so that
 //! ThreadSanitizer knows them.
 use kundratu_pool::LazyPool;
 use std::cell::UnsafeCell;
@@ -9,6 +9,8 @@ use std::time::Duration;
 
 const THREADS: usize = 8;
 const ROUNDS: u64 = 100_000;
+/// A fair pool hands each item to a thread that sleeps, so its rounds are fewer.
+const FAIR_ROUNDS: u64 = 10_000;
 const ITEMS: usize = 2;
 /// A wait that is longer isn't one for an item, but for a wake that was lost.
 const LOST: Duration = Duration::from_secs(30);
@@ -32,13 +34,14 @@ struct Barrier([u64; 4]);
 
 struct Shared {
     pool: LazyPool<u64, ()>,
+    rounds: u64,
     meet: UnsafeCell<Barrier>,
 }
 
 extern "C" fn run(shared: *mut c_void) -> *mut c_void {
     // SAFETY: it is there until all threads have ended.
     let shared = unsafe { &*shared.cast::<Shared>() };
-    for round in 0..ROUNDS {
+    for round in 0..shared.rounds {
         // SAFETY: it was initialized for so many threads.
         unsafe { pthread_barrier_wait(shared.meet.get()) };
         let mut item = shared.pool.pull_timeout(LOST).expect("a wake was lost");
@@ -52,10 +55,9 @@ extern "C" fn run(shared: *mut c_void) -> *mut c_void {
     null_mut()
 }
 
-fn main() {
-    let pool = LazyPool::new(ITEMS, || Ok(0), |_| true).expect("there is memory");
+fn wait(pool: LazyPool<u64, ()>, rounds: u64) {
     let meet = UnsafeCell::default();
-    let mut shared = Shared { pool, meet };
+    let mut shared = Shared { pool, rounds, meet };
     // SAFETY: nobody has the barrier yet.
     let made = unsafe { pthread_barrier_init(shared.meet.get(), null(), THREADS as u32) };
     assert_eq!(made, 0);
@@ -72,5 +74,12 @@ fn main() {
     }
     let status = shared.pool.status();
     assert_eq!((status.in_use, status.waiting), (0, 0));
-    println!("{THREADS} threads waited {ROUNDS} times for {ITEMS} items");
+    println!("{THREADS} threads waited {rounds} times for {ITEMS} items");
+}
+
+fn main() {
+    let any = LazyPool::new(ITEMS, || Ok(0), |_| true);
+    wait(any.expect("there is memory"), ROUNDS);
+    let fair = LazyPool::builder(ITEMS).init(|| Ok(0)).fair().build();
+    wait(fair.expect("there is memory"), FAIR_ROUNDS);
 }

@@ -331,6 +331,39 @@ fn there_are_never_more_items_than_places() {
     assert_eq!(there_are.load(SeqCst), 0);
 }
 
+/// At most one of two places is in use: another thread holds the only item, or tries to make a second
+/// one, which fails. So no pull is refused, and none is late.
+#[test]
+fn an_init_that_fails_beside_it_refuses_no_pull() {
+    let (made, ends) = (AtomicUsize::new(0), AtomicBool::new(false));
+    let init = move || match made.fetch_add(1, SeqCst) {
+        0 => Ok(()),
+        _ => Err("on purpose"),
+    };
+    let pool = LazyPool::new(2, init, |()| true).expect("there is memory");
+    assert_eq!(pool.fill(1), Ok(()));
+    let other = || {
+        while !ends.load(SeqCst) {
+            drop(pool.try_pull());
+            assert_ne!(pool.fill(2), Err(PullError::Closed));
+        }
+    };
+    thread::scope(|scope| {
+        scope.spawn(other);
+        let begun = Instant::now();
+        while begun.elapsed() < Duration::from_millis(300) {
+            let refused = [pool.pull().err(), pool.pull_timeout(LOST).err()];
+            let failed = |error| matches!(error, None | Some(PullError::Init(_)));
+            if !refused.into_iter().all(failed) {
+                ends.store(true, SeqCst);
+                panic!("it was refused: {refused:?}");
+            }
+        }
+        ends.store(true, SeqCst);
+    });
+    assert_eq!((pool.status().made, pool.status().in_use), (1, 0));
+}
+
 #[test]
 fn a_limit_of_time_is_over_all_though_others_go_on() {
     let (pool, ends) = (numbers(1), AtomicBool::new(false));

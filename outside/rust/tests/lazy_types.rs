@@ -20,14 +20,17 @@ fn each_error_has_its_words_and_its_source() {
         (PullError::AllInUse, "all items are in use"),
         (PullError::TimedOut, "no item was free in time"),
         (PullError::Closed, "the pool is closed"),
-        (PullError::from(source.clone()), "the initializer failed"),
+        (
+            PullError::from(source.clone()),
+            "the initializer failed: invalid digit found in string",
+        ),
     ];
     for (error, words) in words {
         assert_eq!(error.to_string(), words);
-        let of_init = error == PullError::Init(source.clone());
+        let boxed: Box<dyn Error> = error.into();
         assert_eq!(
-            error.source().map(ToString::to_string),
-            of_init.then(|| source.to_string())
+            (boxed.to_string().as_str(), boxed.source().is_some()),
+            (words, false)
         );
     }
 }

@@ -1,5 +1,6 @@
 //! What a pool asks of the allocator: nothing for a turn, little where items go from thread to
 //! thread, and all of it comes back.
+#![cfg(not(feature = "portable"))] // memory is asked for by the proved code
 mod heap;
 
 use heap::{zeros, ASKED, HELD};
@@ -7,7 +8,8 @@ use kundratu_pool::{LazyPool, LinearObjectPool, NewError, OwnedReusable, Pool};
 use std::ffi::c_void;
 use std::panic::{catch_unwind, resume_unwind, AssertUnwindSafe};
 use std::ptr::null_mut;
-use std::sync::{mpsc, Arc, Barrier};
+use std::sync::atomic::{AtomicU32, Ordering::SeqCst};
+use std::sync::{mpsc, Arc, Barrier, OnceLock};
 use std::time::Duration;
 use std::{iter, mem, thread};
 
@@ -111,7 +113,7 @@ fn forgotten_items_keep_their_places_and_no_memory() {
         (0..40).for_each(|_| mem::forget((pool.pull(), grows.pull())));
         assert_eq!(iter::from_fn(|| pool.pull()).collect::<Vec<_>>().len(), 24);
     };
-    // A thread notes the linear pools where it keeps places, for a while past their ends.
+    // A thread notes the linear pools that it uses, for a while past their ends.
     (0..100).for_each(|_| pools());
     let held = HELD.get();
     (0..1_000).for_each(|_| pools());
@@ -160,7 +162,7 @@ fn bytes<A>(make: impl FnOnce() -> A) -> (usize, A) {
     settle();
     let before = used();
     let made = make();
-    (used() - before, made)
+    (used().saturating_sub(before), made)
 }
 
 /// A place whose item wasn't made since that panicked is used again.
@@ -310,6 +312,71 @@ fn pools_end_though_threads_keep_places_of_theirs() {
     assert!(grown < 100_000, "{grown} bytes more");
     drop(sender);
     keeps.join().expect("it ends");
+}
+
+/// A thread has some bytes of each linear pool that it used, for a while past its end.
+#[test]
+fn pools_that_end_leave_few_bytes_to_a_thread_that_used_them() {
+    let _alone = heap::alone();
+    const POOLS: usize = 1_000;
+    let run = || {
+        let pools = [(); POOLS].map(|()| LinearObjectPool::<u32>::new(|| 0, |_| ()));
+        pools.iter().for_each(|pool| drop(pool.pull()));
+    };
+    drop(zeros(1).pull()); // the thread has its number
+    let (left, ()) = bytes(run);
+    assert!(left <= POOLS * 1_000, "{left} bytes");
+    let (more, ()) = bytes(|| (0..5).for_each(|_| run()));
+    assert!(left + more <= 2 * POOLS * 1_000, "{more} bytes more");
+}
+
+unsafe extern "C" {
+    safe fn pthread_key_create(key: &mut u32, end: extern "C" fn(*mut c_void)) -> i32;
+    safe fn pthread_setspecific(key: u32, value: *const c_void) -> i32;
+}
+
+static LATE: OnceLock<(Pool<u32>, LinearObjectPool<u32>)> = OnceLock::new();
+static MADE: AtomicU32 = AtomicU32::new(0);
+
+extern "C" fn pull_late(_: *mut c_void) {
+    let (pool, grows) = LATE.get().expect("it is there");
+    drop((pool.pull(), grows.pull()));
+    drop((pool.pull(), grows.pull()));
+}
+
+/// A thread first pulls after its thread locals have ended. glibc itself leaves some bytes of it.
+#[test]
+fn threads_that_first_pull_at_their_end_leave_nothing_behind() {
+    let _alone = heap::alone();
+    let init = || MADE.fetch_add(1, SeqCst);
+    let pools = LATE.get_or_init(|| (zeros(8), LinearObjectPool::new(init, |_| ())));
+    let mut key = 0;
+    assert_eq!(pthread_key_create(&mut key, pull_late), 0);
+    let run = move || assert_eq!(pthread_setspecific(key, (&raw const LATE).cast()), 0);
+    let threads = |count| (0..count).for_each(|_| thread::spawn(run).join().expect("it ends"));
+    threads(100);
+    let (grown, ()) = bytes(|| threads(2_000));
+    assert!(grown <= 2_000 * 100, "{grown} bytes more");
+    assert_eq!(MADE.load(SeqCst), 1);
+    assert_eq!(
+        iter::from_fn(|| pools.0.pull()).collect::<Vec<_>>().len(),
+        8
+    );
+}
+
+/// A linear pool makes a part only where it has no place left.
+#[test]
+fn a_linear_pool_asks_for_memory_where_its_parts_are_full() {
+    let _alone = heap::alone();
+    drop(zeros(1).pull()); // the thread has its number
+    let grows = LinearObjectPool::<u32>::new(|| 0, |_| ());
+    let mut items = Vec::with_capacity(57);
+    let pull = |_: &usize| {
+        let before = ASKED.get();
+        items.push(grows.pull());
+        before < ASKED.get()
+    };
+    assert_eq!((0..57).filter(pull).collect::<Vec<_>>(), [0, 8, 24, 56]);
 }
 
 fn lazy(items: usize) -> Result<LazyPool<u32, ()>, NewError> {

@@ -316,3 +316,37 @@ fn nobody_else_is_at_an_item_that_is_held() {
         pool.items()
     );
 }
+
+#[test]
+fn a_value_in_place_of_an_item_is_not_reset() {
+    let resets = Arc::new(AtomicUsize::new(0));
+    let count = Arc::clone(&resets);
+    let reset = move |_: &mut u32| {
+        count.fetch_add(1, Ordering::SeqCst);
+    };
+    let pool = Pool::<u32>::new(1, || 1, reset);
+    let pool = pool.expect("there is memory");
+    let one = pool.pull_or_else(|| unreachable!("one is free"));
+    let mut two = pool.pull_or_else(|| 2);
+    *two += 5;
+    assert_eq!(
+        (*one, one.is_pooled(), *two, two.is_pooled()),
+        (1, true, 7, false)
+    );
+    drop(two);
+    assert_eq!(resets.load(Ordering::SeqCst), 0);
+    drop(one);
+    assert_eq!(resets.load(Ordering::SeqCst), 1);
+    assert!(pool.pull().is_some());
+}
+
+#[test]
+fn a_pool_ends_with_its_items() {
+    let mut next = 0..;
+    let pool = Pool::<u32>::new(70, || next.next().expect("there are more"), |_| ());
+    let pool = pool.expect("there is memory");
+    *pool.pull().expect("one is free") += 100;
+    let items = pool.into_inner();
+    assert_eq!(items.len(), 70);
+    assert_eq!(items.into_iter().sum::<u32>(), (0..70).sum::<u32>() + 100);
+}

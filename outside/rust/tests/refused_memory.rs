@@ -1,10 +1,17 @@
 //! Where memory is refused, a pool says so, and nothing is left of what it asked for before.
+#![cfg(not(feature = "portable"))] // memory is asked for by the proved code
 mod heap;
 
 use heap::{zeros, ASKED, HELD, REFUSED};
-use kundratu_pool::{LazyPool, LinearObjectPool, NewError, Pool};
+use kundratu_pool::{LazyPool, LinearObjectPool, NewError, Pool, PullError};
 use std::fs::read_to_string;
+use std::future::Future;
+use std::pin::pin;
 use std::process::Command;
+use std::sync::atomic::{AtomicUsize, Ordering::SeqCst};
+use std::sync::Arc;
+use std::task::{Context, Wake, Waker};
+use std::time::Duration;
 use std::{env, iter, mem, thread};
 
 #[repr(C)]
@@ -211,4 +218,55 @@ fn a_lazy_pool_that_is_refused_memory_says_so_and_leaves_nothing() {
         4 <= refuse_each(open),
         "the states, the items and two pools"
     );
+}
+
+/// Makes this call, whose first request is refused. Returns how often it asked.
+fn refuse_first<A>(call: impl FnOnce() -> A) -> (A, usize) {
+    ASKED.set(0);
+    REFUSED.set(0);
+    let answer = call();
+    REFUSED.set(usize::MAX);
+    (answer, ASKED.get())
+}
+
+/// It has no place in the queue then, and asks to be polled again.
+#[test]
+fn a_task_that_is_refused_memory_comes_again() {
+    struct Counts(AtomicUsize);
+    impl Wake for Counts {
+        fn wake(self: Arc<Self>) {
+            self.0.fetch_add(1, SeqCst);
+        }
+    }
+    let _alone = heap::alone();
+    let pool = LazyPool::<u32, ()>::new(1, || Ok(0), |_| true).expect("there is memory");
+    let counts = Arc::new(Counts(AtomicUsize::new(0)));
+    let waker = Waker::from(Arc::clone(&counts));
+    let mut context = Context::from_waker(&waker);
+    let item = pool.pull();
+    let mut wait = pin!(pool.pull_async());
+    let (poll, asked) = refuse_first(|| wait.as_mut().poll(&mut context).is_pending());
+    assert_eq!((poll, asked, counts.0.load(SeqCst)), (true, 1, 1));
+    assert_eq!(pool.status().waiting, 0);
+    assert!(wait.as_mut().poll(&mut context).is_pending());
+    assert_eq!((pool.status().waiting, counts.0.load(SeqCst)), (1, 1));
+    drop(item);
+    assert_eq!(counts.0.load(SeqCst), 2);
+    assert!(wait.as_mut().poll(&mut context).is_ready());
+}
+
+/// A thread of a fair pool asks until its limit, and what looks at free items looks at none.
+#[test]
+fn a_fair_pull_and_retain_that_are_refused_memory_lose_nothing() {
+    let _alone = heap::alone();
+    let pool = LazyPool::<u32, ()>::builder(2).init(|| Ok(0)).fair();
+    let pool = pool.build().expect("there is memory");
+    let held = [pool.pull(), pool.pull()];
+    let time = Duration::from_millis(20);
+    let (pulled, asked) = refuse_first(|| pool.pull_timeout(time).map(drop));
+    assert_eq!((pulled, asked > 1), (Err(PullError::TimedOut), true));
+    drop(held);
+    assert_eq!(refuse_first(|| pool.retain(|_, _| false)), (0, 1));
+    assert_eq!((pool.status().made, pool.status().in_use), (2, 0));
+    assert_eq!(pool.retain(|_, _| false), 2);
 }

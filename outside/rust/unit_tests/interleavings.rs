@@ -1,142 +1,24 @@
 //! All interleavings of two threads: of the library's pulls and returns, each of which is one step,
 //! and of what threads read and write of each other's kept places. What a thread does between has
 //! no effect on others.
-use crate::{threads, LinearObjectPool, OwnedReusable, Pool};
-use std::cell::{Cell, RefCell};
+use crate::{atomics, threads, LinearObjectPool, OwnedReusable, Pool};
+use std::cell::Cell;
 use std::collections::VecDeque;
 use std::rc::Rc;
 use std::sync::atomic::{AtomicUsize, Ordering::SeqCst};
-use std::sync::{mpsc, Arc, Condvar, Mutex, MutexGuard, PoisonError};
+use std::sync::{mpsc, Arc, Mutex, PoisonError};
 use std::{iter, mem, thread};
 
+#[path = "growing.rs"]
+mod growing;
+#[path = "held_up.rs"]
+mod held_up;
 #[path = "threads.rs"]
 mod numbers;
-
-/// One test at a time has the numbers of threads.
-pub(crate) static TESTED: Mutex<()> = Mutex::new(());
-
-#[derive(Clone, Copy, Default, PartialEq)]
-enum State {
-    #[default]
-    Runs,
-    Waits,
-    Ended,
-}
-
-/// Which of two threads goes next, at each step at which both could: those of this run, and after
-/// them the first thread.
-#[derive(Default)]
-struct Turns {
-    chosen: Vec<usize>,
-    next: usize,
-    states: [State; 2],
-    goes: Option<usize>,
-}
-
-#[derive(Default)]
-struct Schedule(Mutex<Turns>, Condvar);
-
-thread_local! {
-    static THREAD: Cell<Option<(&'static Schedule, usize)>> = const { Cell::new(None) };
-}
-
-/// What other threads do before a step of this one, and how many steps come before that, after the
-/// last move.
-type Move = (usize, Box<dyn FnOnce()>);
-
-thread_local! {
-    static MOVES: RefCell<VecDeque<Move>> = const { RefCell::new(VecDeque::new()) };
-}
-
-/// Is called before each step that other threads may see. It waits for the thread's turn.
-pub(crate) fn step() {
-    let due = MOVES.try_with(|moves| {
-        let mut moves = moves.borrow_mut();
-        let next = moves.front_mut()?;
-        let is_due = next.0 == 0;
-        next.0 = next.0.saturating_sub(1);
-        is_due.then(|| moves.pop_front()).flatten()
-    });
-    let due = due.ok().flatten(); // at a thread's end there is none
-    due.into_iter().for_each(|(_, call)| call());
-    if let Some((schedule, thread)) = THREAD.get() {
-        let mut turns = schedule.leave(thread, State::Waits);
-        while turns.goes != Some(thread) {
-            turns = schedule.1.wait(turns).expect("no panic");
-        }
-        turns.goes = None;
-        turns.states[thread] = State::Runs;
-    }
-}
-
-impl Schedule {
-    /// Says that this thread doesn't run, and who goes if none does.
-    fn leave(&self, thread: usize, state: State) -> MutexGuard<'_, Turns> {
-        let mut turns = self.0.lock().expect("no panic");
-        turns.states[thread] = state;
-        turns.goes = match (turns.goes, turns.states) {
-            (None, [State::Waits, State::Waits]) => Some(turns.choose()),
-            (None, [State::Waits, State::Ended]) => Some(0),
-            (None, [State::Ended, State::Waits]) => Some(1),
-            (goes, _) => goes,
-        };
-        self.1.notify_all();
-        turns
-    }
-}
-
-impl Turns {
-    fn choose(&mut self) -> usize {
-        self.next += 1;
-        self.chosen.resize(self.next.max(self.chosen.len()), 0);
-        self.chosen[self.next - 1]
-    }
-}
-
-/// A thread's end, by a panic too.
-struct Running(&'static Schedule, usize);
-
-impl Drop for Running {
-    fn drop(&mut self) {
-        THREAD.set(None);
-        drop(self.0.leave(self.1, State::Ended));
-    }
-}
-
-/// Runs both works in each interleaving of their steps, of which there are at least so many, and
-/// checks what is left.
-fn explore<S: Sync>(least: usize, make: impl Fn() -> S, works: [fn(&S); 2], check: impl Fn(S)) {
-    let _alone = TESTED.lock().unwrap_or_else(PoisonError::into_inner);
-    let (mut chosen, mut runs) = (Vec::new(), 0);
-    loop {
-        let schedule: &'static Schedule = Box::leak(Box::default());
-        schedule.0.lock().expect("no panic").chosen = chosen;
-        let shared = make();
-        thread::scope(|scope| {
-            for (thread, work) in works.into_iter().enumerate() {
-                let shared = &shared;
-                scope.spawn(move || {
-                    threads::with(|_| ()); // it has its number
-                    THREAD.set(Some((schedule, thread)));
-                    let _running = Running(schedule, thread);
-                    step();
-                    work(shared);
-                });
-            }
-        });
-        check(shared);
-        runs += 1;
-        chosen = mem::take(&mut schedule.0.lock().expect("no panic").chosen);
-        while chosen.last() == Some(&1) {
-            chosen.pop();
-        }
-        match chosen.last_mut() {
-            Some(last) => *last = 1,
-            None => break,
-        }
-    }
-    assert!(least <= runs, "{runs} interleavings");
-}
+#[path = "steps.rs"]
+mod steps;
+use steps::{explore, explore_after, Move, LOCKS, MOVES};
+pub(crate) use steps::{locks, looked, meanwhile, returns, sets, step, TESTED};
 
 type Item = OwnedReusable<Cell<u32>>;
 
@@ -277,6 +159,84 @@ fn a_pull_of_one_item_is_refused_only_while_it_is_held() {
     explore(500, kept, works, One::check);
 }
 
+/// Two pools of one item. Each of two threads holds one, and delays its writes.
+struct Each(
+    [Arc<Pool<u32>>; 2],
+    [Mutex<Option<OwnedReusable<u32>>>; 2],
+    AtomicUsize,
+);
+
+impl Each {
+    /// Returns the item of one pool, and then pulls the other one's.
+    fn turn(&self, thread: usize) {
+        drop(self.1[thread].lock().expect("no panic").take());
+        self.2
+            .fetch_add(usize::from(self.0[1 - thread].pull().is_none()), SeqCst);
+    }
+}
+
+/// Whatever comes first, one of two pulls comes after the return that it waits for. A return is a
+/// plain write.
+#[test]
+fn one_of_two_pulls_finds_what_the_other_thread_returned_before() {
+    let one = || Arc::new(Pool::new(1, || 0, |_| ()).expect("there is memory"));
+    let each = || Each([one(), one()], Default::default(), AtomicUsize::new(0));
+    let hold = |each: &Each, thread: usize| {
+        drop(each.0[thread].pull()); // so it has its slot
+        let item = each.0[thread].pull_owned();
+        *each.1[thread].lock().expect("no panic") = item;
+        atomics::delay(true);
+    };
+    let works = [|each: &Each| each.turn(0), |each: &Each| each.turn(1)];
+    explore_after(hold, 3, 100, each, works, |each| {
+        assert!(each.2.into_inner() < 2, "both were refused")
+    });
+}
+
+/// A pool of one item, which the first thread holds. Before the other one pulls it, that one says
+/// that it may wait.
+struct Waited(
+    Arc<Pool<u32>>,
+    Mutex<Option<OwnedReusable<u32>>>,
+    [atomics::AtomicUsize; 2],
+);
+
+/// A program that waits in its own way has a fence between a return and its read of who waits.
+#[test]
+fn who_waits_in_its_own_way_is_seen_after_a_return_and_a_fence() {
+    let waited = || {
+        let one = Pool::new(1, || 0, |_| ()).expect("there is memory");
+        Waited(Arc::new(one), Mutex::default(), Default::default())
+    };
+    let hold = |waited: &Waited, thread: usize| {
+        if thread == 0 {
+            drop(waited.0.pull()); // so it has its slot
+            *waited.1.lock().expect("no panic") = waited.0.pull_owned();
+        }
+        atomics::delay(true);
+    };
+    let give_back = |Waited(_, item, [waits, is_seen]): &Waited| {
+        drop(item.lock().expect("no panic").take());
+        atomics::fence(SeqCst);
+        is_seen.store(waits.load(SeqCst), SeqCst);
+    };
+    let wait = |Waited(pool, _, [waits, _]): &Waited| {
+        waits.store(1, atomics::Ordering::Relaxed);
+        waits.store(1 + usize::from(pool.pull().is_none()), SeqCst);
+    };
+    explore_after(
+        hold,
+        3,
+        100,
+        waited,
+        [give_back, wait],
+        |Waited(_, _, flags)| {
+            let [waits, is_seen] = flags.map(|flag| flag.load(SeqCst));
+            assert!(waits == 1 || is_seen > 0, "it waits, and nobody sees that");
+        },
+    );
+}
+
 #[test]
 fn an_item_that_a_third_thread_keeps_is_taken_by_one() {
     let kept = || {
@@ -294,47 +254,6 @@ fn an_item_that_a_third_thread_keeps_is_taken_by_one() {
     explore(20, kept, [take, take], |(_, taken)| {
         assert_eq!(taken.into_inner(), 1)
     });
-}
-
-/// One item is free. At some step of a pull another thread returns one and a third one pulls one,
-/// both in parts of the pool. Then none is made, wherever these items lie.
-#[test]
-fn an_item_that_moves_is_found() {
-    let _alone = TESTED.lock().unwrap_or_else(PoisonError::into_inner);
-    // Some of each of three parts, of which the last one has room for more.
-    let places = || (0..40).step_by(5);
-    for (free, moved) in places().flat_map(|free| places().map(move |moved| (free, moved))) {
-        for before in (0..12).filter(|_| free != moved) {
-            let count = Arc::new(AtomicUsize::new(0));
-            let made = Arc::clone(&count);
-            let init = move || made.fetch_add(1, SeqCst);
-            let pool = Arc::new(LinearObjectPool::<usize>::new(init, |_| ()));
-            let mut items: Vec<_> = (0..40).map(|_| Some(pool.pull_owned())).collect();
-            let (free, moved) = (items[free].take(), items[moved].take());
-            thread::spawn(move || drop(free)).join().expect("it ends");
-            // The next thread has this one's slot, and begins where this one pulled.
-            let other = Arc::clone(&pool);
-            thread::spawn(move || drop(other.pull()))
-                .join()
-                .expect("it ends");
-            let other = Arc::clone(&pool);
-            let call = move || {
-                thread::spawn(move || drop(moved)).join().expect("it ends");
-                let pull = move || {
-                    threads::with(|_| ()); // it has its number
-                    mem::forget(other.pull());
-                };
-                thread::spawn(pull).join().expect("it ends");
-            };
-            MOVES.set(VecDeque::from([(
-                before,
-                Box::new(call) as Box<dyn FnOnce()>,
-            )]));
-            let _item = pool.pull();
-            MOVES.take();
-            assert_eq!(count.load(SeqCst), 40);
-        }
-    }
 }
 
 /// A thread that pulls an item and returns it as it is told to. It has its number until its end.
@@ -423,4 +342,82 @@ fn a_thread_without_a_number_pulls_and_returns() {
     }
     turn();
     assert!(count.load(SeqCst) <= 51);
+}
+
+/// A pool whose items are counted as they are made.
+fn counted() -> (Arc<LinearObjectPool<usize>>, Arc<AtomicUsize>) {
+    let count = Arc::new(AtomicUsize::new(0));
+    let made = Arc::clone(&count);
+    let init = move || made.fetch_add(1, SeqCst);
+    (Arc::new(LinearObjectPool::new(init, |_| ())), count)
+}
+
+fn in_a_thread(call: impl FnOnce() + Send + 'static) {
+    thread::spawn(call).join().expect("it ends");
+}
+
+fn one_move(before: usize, call: impl FnOnce() + 'static) -> Move {
+    (before, Box::new(call))
+}
+
+/// Of two items one is in use, and the other one isn't made. At a step of a pull the first one comes
+/// back and the second one is made. So one is free all the time, and is pulled.
+#[test]
+fn a_lazy_item_that_is_made_within_a_pull_is_found() {
+    let _alone = TESTED.lock().unwrap_or_else(PoisonError::into_inner);
+    for before in 0..30 {
+        let pool = crate::LazyPool::<u32, ()>::new(2, || Ok(0), |_| true);
+        let pool = Arc::new(pool.expect("there is memory"));
+        let (held, other) = (pool.pull_owned().expect("it is made"), Arc::clone(&pool));
+        let call = move || {
+            drop(held);
+            other.fill(2).expect("it is made");
+        };
+        let moved = one_move(before, move || in_a_thread(call));
+        MOVES.set(VecDeque::from([moved]));
+        let pulled = pool.pull();
+        MOVES.take();
+        assert!(pulled.is_ok(), "refused at step {before}");
+    }
+}
+
+/// Who sets a box that is set drops its value.
+#[test]
+fn a_box_that_is_set_twice_drops_the_later_value() {
+    let (first, later) = (Rc::new(1), Rc::new(2));
+    let once = crate::once::OnceBox::new();
+    for value in [&first, &later] {
+        assert_eq!(once.set(Rc::clone(value)).map(|set| **set), Some(1));
+    }
+    assert_eq!((Rc::strong_count(&first), Rc::strong_count(&later)), (2, 1));
+}
+
+/// A thread that has its slots takes no lock, whether it keeps what it returns or not.
+#[test]
+fn later_pulls_and_returns_take_no_lock() {
+    let _alone = TESTED.lock().unwrap_or_else(PoisonError::into_inner);
+    in_a_thread(|| {
+        let pool = Pool::<u32>::new(40, || 0, |_| ()).expect("there is memory");
+        let (grows, _) = counted();
+        let turn = || {
+            let items: Vec<_> = (0..40).map(|_| (pool.pull(), grows.pull())).collect();
+            assert!(items.iter().all(|(item, _)| item.is_some()));
+            assert!(pool.pull().is_none());
+        };
+        turn();
+        turn();
+        let before = LOCKS.get();
+        turn();
+        assert_eq!(LOCKS.get(), before);
+    });
+}
+
+/// Behind the last slot there is room on its cache lines that no other memory has.
+#[test]
+fn slots_share_no_cache_line_with_other_memory() {
+    let slots = |count| crate::slots::Slots::new((0..count).map(|at| at as u32));
+    for count in [1_usize, 8, 31, 32, 1_000] {
+        let room = slots(count).expect("there is memory").room();
+        assert!(room >= 128, "{room} bytes after {count} slots");
+    }
 }

@@ -1,8 +1,11 @@
 //! Numbers of threads.
 use super::TESTED;
-use crate::threads::{with, FIRST};
+use crate::threads::{pull_number, with, CALLS, FIRST, NUMBERS};
 use std::cell::RefCell;
 use std::collections::HashSet;
+use std::ffi::c_void;
+use std::ptr::NonNull;
+use std::sync::atomic::{AtomicUsize, Ordering::SeqCst};
 use std::sync::mpsc::{channel, Sender};
 use std::sync::{Barrier, PoisonError};
 use std::thread;
@@ -87,4 +90,59 @@ fn a_thread_has_no_number_once_it_was_given_back() {
     };
     thread::spawn(run).join().expect("it ends");
     assert!(receiver.iter().any(|number| number.is_none()));
+}
+
+/// A thread that came when all numbers were out asks again at each 64th call.
+#[test]
+fn a_thread_without_a_number_gets_one_later() {
+    let _alone = TESTED.lock().unwrap_or_else(PoisonError::into_inner);
+    let run = || {
+        let mut handles: Vec<_> = (0..NUMBERS).map(|_| None).collect();
+        handles
+            .iter_mut()
+            .for_each(|handle| _ = pull_number(handle));
+        assert_eq!(own(), None);
+        let number = pull_number(&mut None);
+        drop(handles);
+        let calls = (1..1_000).find(|_| own().is_some());
+        (number, calls)
+    };
+    let ran = thread::spawn(run).join().expect("it ends");
+    assert_eq!(ran, (None, Some(CALLS as usize)));
+}
+
+#[allow(unsafe_code)]
+unsafe extern "C" {
+    fn pthread_key_create(key: &mut u32, end: extern "C" fn(*mut c_void)) -> i32;
+    safe fn pthread_setspecific(key: u32, value: *const c_void) -> i32;
+}
+
+/// How many threads had a number in a destructor of a key, of the first ones, and had none.
+static LATE_NUMBERS: [AtomicUsize; 2] = [const { AtomicUsize::new(0) }; 2];
+
+extern "C" fn call_late(_: *mut c_void) {
+    let is_first = own().is_some_and(|number| number < FIRST);
+    LATE_NUMBERS[usize::from(!is_first)].fetch_add(1, SeqCst);
+}
+
+/// Such a destructor runs after a thread's locals have ended. The number comes back all the same.
+#[test]
+#[allow(unsafe_code)]
+fn a_number_that_is_asked_for_after_a_threads_locals_is_given_back() {
+    let _alone = TESTED.lock().unwrap_or_else(PoisonError::into_inner);
+    let mut key = 0;
+    // SAFETY: the destructor needs no value.
+    assert_eq!(unsafe { pthread_key_create(&mut key, call_late) }, 0);
+    for has_number in [false, true] {
+        for _ in 0..FIRST * 10 {
+            let run = move || {
+                assert!(!has_number || own().is_some());
+                pthread_setspecific(key, NonNull::<c_void>::dangling().as_ptr())
+            };
+            assert_eq!(thread::spawn(run).join().expect("it ends"), 0);
+        }
+    }
+    // Those whose first call came before have given theirs back.
+    let numbers = LATE_NUMBERS.each_ref().map(|count| count.load(SeqCst));
+    assert_eq!(numbers, [FIRST * 10; 2]);
 }

@@ -9,6 +9,10 @@ fn lost() -> Limit {
     Instant::now().checked_add(Duration::from_secs(20))
 }
 
+fn count(waiters: &Waiters) -> usize {
+    waiters.signs.load().waiting()
+}
+
 fn soon() -> Limit {
     Instant::now().checked_add(Duration::from_millis(20))
 }
@@ -22,22 +26,22 @@ fn a_return_after_a_try_is_seen_before_the_sleep() {
         let got = is_free.get().then_some(());
         tries.set(tries.get() + 1);
         if !is_free.replace(true) {
-            waiters.tell();
+            waiters.pass_on();
         }
         got
     });
     assert_eq!((got, tries.get()), (Some(()), 2));
     assert!(begun.elapsed() < Duration::from_secs(10));
-    assert_eq!((waiters.count(), waiters.told.into_inner()), (0, 1));
+    assert_eq!((count(&waiters), waiters.told.load(SeqCst)), (0, 1));
 }
 
 #[test]
 fn a_return_without_waiters_is_not_told() {
     let waiters = Waiters::default();
-    assert!(!waiters.tell());
+    waiters.pass_on();
     assert_eq!(waiters.told.load(SeqCst), 0);
     waiters.close();
-    assert!(waiters.tell() && waiters.is_closed() && waiters.count() == 0);
+    assert!(waiters.signs.load().is_closed() && count(&waiters) == 0);
 }
 
 #[test]
@@ -45,18 +49,15 @@ fn who_slept_is_woken_no_more() {
     let waiters = Waiters::default();
     waiters.is_woken.store(true, SeqCst);
     assert_eq!(waiters.wait(soon(), || None::<()>), None);
-    assert!(!waiters.is_woken.into_inner());
-    assert_eq!(
-        (waiters.waiting.into_inner(), waiters.asleep.into_inner()),
-        (0, 0)
-    );
+    assert!(!waiters.is_woken.load(SeqCst));
+    assert_eq!((count(&waiters), waiters.asleep.load(SeqCst)), (0, 0));
 }
 
 /// Lets a thread sleep while so many returns are told, and says whether it told another one, of
 /// whom it thinks that it waits.
 fn passes_on(returns: usize, gets: bool) -> bool {
     let (waiters, is_free) = (Waiters::default(), AtomicBool::new(false));
-    waiters.waiting.fetch_add(1, SeqCst);
+    waiters.signs.enter();
     let limit = if gets { lost() } else { soon() };
     let attempt = || is_free.load(SeqCst).then_some(());
     let got = thread::scope(|scope| {
@@ -91,10 +92,10 @@ fn who_gives_up_passes_a_wake_on() {
 #[test]
 fn one_sleeper_at_a_time_is_woken() {
     let waiters = Waiters::default();
-    waiters.waiting.fetch_add(1, SeqCst);
+    waiters.signs.enter();
     waiters.asleep.fetch_add(1, SeqCst);
     for _ in 0..2 {
-        assert!(!waiters.tell());
+        waiters.pass_on();
         assert!(waiters.is_woken.load(SeqCst));
     }
     assert_eq!(waiters.told.into_inner(), 2);

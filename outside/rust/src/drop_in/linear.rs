@@ -96,12 +96,13 @@ impl<T> LinearObjectPool<T> {
         Held { at, item }
     }
 
-    /// Makes the item of a place that was pulled. The place is returned if that panics.
+    /// Makes the item of a place that was pulled. If that panics, the place is left to a later pull
+    /// that makes one.
     #[cold]
     #[inline(never)]
     fn make_item(&self, at: usize, value: &mut Option<Item<T>>) -> NonNull<Item<T>> {
-        // SAFETY: the place was pulled, and is returned here if making its item panics.
-        let empty = AtEnd(at, |at| unsafe { self.places.give_back_unkept(*at) });
+        // SAFETY: the place was pulled, and is left here if making its item panics.
+        let empty = AtEnd(at, |at| unsafe { self.places.leave_bare(*at) });
         let item = (self.init)();
         mem::forget(empty);
         let after = NonZeroUsize::MIN.saturating_add(at);

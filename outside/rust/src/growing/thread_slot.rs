@@ -11,9 +11,9 @@ const KEPT: usize = 7;
 /// words of pages so far apart lie on cache lines of their own.
 const TOGETHER: usize = 8;
 const APART: usize = 17;
-/// After so many moves to a page a thread only pulls, if it returned none between but what it keeps.
-const MOVES: u8 = 128;
-/// After so many returns a thread only returns, if it made no such move between.
+/// After so many pulls a thread only pulls, if it returned no place between but what it keeps, and
+/// after so many returns it only returns, if it pulled none between but what it kept.
+const PULLS: u16 = 1_024;
 const RETURNS: u16 = 1_024;
 
 /// What a thread has of a pool.
@@ -22,8 +22,8 @@ pub(super) struct ThreadSlot {
     /// The places that it keeps beside its last one.
     kept: [Cell<Option<Held>>; KEPT],
     count: Cell<usize>,
-    /// How often it moved to a page since its last return, and returned since its last move.
-    moves: Cell<u8>,
+    /// How often it pulled since its last return, and returned since its last pull, but what it kept.
+    pulls: Cell<u16>,
     returns: Cell<u16>,
     pub(super) way: RefCell<Way>,
 }
@@ -42,6 +42,10 @@ pub(super) struct Way {
     /// The part of the last pull, where the next one looks first, and the page where that begins.
     pub(super) part: Option<PartName>,
     pub(super) page: usize,
+    /// How many changes the pool had before a look at all parts that found none.
+    pub(super) changes_at_none: Option<usize>,
+    /// The last part of the thread's shard, as far as it knows.
+    pub(super) last: Option<PartName>,
     /// How many more places it pulls at this page.
     left: usize,
     /// Its handles of the parts, by their numbers.
@@ -59,10 +63,23 @@ impl ThreadSlot {
             last: Cell::new(Last::Unused),
             kept: [const { Cell::new(None) }; KEPT],
             count: Cell::new(0),
-            moves: Cell::new(0),
+            pulls: Cell::new(0),
             returns: Cell::new(0),
             way: RefCell::new(Way::new(true)),
         }
+    }
+
+    /// Begins the work of a thread, whose end returns what it keeps here.
+    pub(super) fn begin(&self) {
+        let ThreadSlot {
+            last,
+            pulls,
+            returns,
+            ..
+        } = self;
+        last.set(Last::Pulled);
+        pulls.set(0);
+        returns.set(0);
     }
 
     /// Keeps a place as the last one, if there is none.
@@ -114,28 +131,24 @@ impl ThreadSlot {
         self.count.get() < KEPT
     }
 
-    /// Keeps a place beside the last one, if there is room. An `init` may have taken it meanwhile.
+    /// Keeps a place beside the last one, where there is room.
     #[inline(always)]
-    pub(super) fn keep_beside(&self, held: Held) -> bool {
+    pub(super) fn keep_beside(&self, held: Held) {
         let count = self.count.get();
-        let room = self.kept.get(count);
-        if let Some(room) = room {
-            room.set(Some(held));
-            self.count.set(count + 1);
-        }
-        room.is_some()
+        self.kept[count].set(Some(held));
+        self.count.set(count + 1);
     }
 
     /// Whether the thread only pulls places.
     #[inline(always)]
     pub(super) fn only_pulls(&self) -> bool {
-        self.moves.get() >= MOVES
+        self.pulls.get() >= PULLS
     }
 
-    /// Counts a move to a page.
+    /// Counts the pull of a place that wasn't kept.
     #[inline(always)]
-    pub(super) fn count_move(&self) {
-        self.moves.set(self.moves.get().saturating_add(1));
+    pub(super) fn count_pull(&self) {
+        self.pulls.set(self.pulls.get().saturating_add(1));
         self.returns.set(0);
     }
 
@@ -144,7 +157,7 @@ impl ThreadSlot {
     pub(super) fn count_return(&self) -> bool {
         let returns = self.returns.get().saturating_add(1);
         self.returns.set(returns);
-        self.moves.set(0);
+        self.pulls.set(0);
         returns >= RETURNS
     }
 
@@ -160,6 +173,8 @@ impl Way {
         Way {
             part: None,
             page: 0,
+            changes_at_none: None,
+            last: None,
             left: TOGETHER,
             handles: Vec::new(),
             opens,
@@ -173,17 +188,15 @@ impl Way {
     }
 
     /// Finds where the next pull begins, after one of a place of this page. The pages are as many as
-    /// a power of two, or none. Tells whether it moves.
+    /// a power of two, or none.
     #[inline(always)]
-    pub(super) fn go_on(&mut self, page: usize, pages: usize) -> bool {
-        let moves = page != self.page || self.left <= 1;
-        if moves {
+    pub(super) fn go_on(&mut self, page: usize, pages: usize) {
+        if page != self.page || self.left <= 1 {
             self.left = TOGETHER;
             self.page = (page + APART) & pages.saturating_sub(1);
         } else {
             self.left -= 1;
         }
-        moves
     }
 
     /// Returns at which number the handle of a part lies.

@@ -1,48 +1,79 @@
 //! A place of a lazy pool from its pull to its return.
-use super::{LazyPool, LazyReusable, EMPTY, IN_USE, MADE};
+use super::places::{Any, Closed, Kind, Taken};
+use super::{Entry, LazyPool, LazyReusable, PullError};
 use crate::guard::{AtEnd, Guard, Source};
 use crate::slots::Slot;
-use std::sync::atomic::Ordering::Relaxed;
 use std::{mem, ops::Deref};
 
 /// A place that is held. At its end it is free, with the item that lies there or empty.
 pub(super) struct Held<'p, T, E> {
     pool: &'p LazyPool<T, E>,
-    place: usize,
+    taken: Taken,
 }
 
+/// A place, if one is free, or why there is none.
+pub(super) type Got<'p, T, E> = Option<Result<Held<'p, T, E>, PullError<E>>>;
+
 impl<'p, T, E> Held<'p, T, E> {
-    /// Pulls a place of this kind. `None` if there was none at one moment.
+    /// Pulls a place with an item. `None` if there was none at one moment.
     #[inline(always)]
-    pub(super) fn pull(pool: &'p LazyPool<T, E>, kind: u8) -> Option<Self> {
-        let place = pool.kinds[usize::from(kind)].pull()?;
-        pool.state(place).store(kind | IN_USE, Relaxed);
-        Some(Held { pool, place })
+    pub(super) fn made(pool: &'p LazyPool<T, E>) -> Option<Self> {
+        let taken = pool.places.pull_made()?;
+        Some(Held { pool, taken })
+    }
+
+    /// Pulls an empty place. `None` if there was none at one moment.
+    pub(super) fn empty(pool: &'p LazyPool<T, E>) -> Option<Self> {
+        let taken = pool.places.pull_empty()?;
+        Some(Held { pool, taken })
+    }
+
+    /// Pulls an item, if the pool has nothing else to mind.
+    #[inline(always)]
+    pub(super) fn plain(pool: &'p LazyPool<T, E>) -> Option<LazyReusable<'p, T, E>> {
+        let taken = pool.places.pull_plain()?;
+        // SAFETY: the place was pulled just now, and has an item.
+        Some(unsafe { Guard::new(pool, taken.place) })
+    }
+
+    /// Pulls a place, one with an item if it can. `None` if all were in use at one moment, or if
+    /// others come first.
+    pub(super) fn any(pool: &'p LazyPool<T, E>) -> Got<'p, T, E> {
+        Self::of(pool, pool.places.any())
+    }
+
+    /// Creates the holder of a place that was pulled of this pool just now, if one was.
+    pub(super) fn of(pool: &'p LazyPool<T, E>, any: Any) -> Got<'p, T, E> {
+        Some(match any? {
+            Ok(taken) => Ok(Held { pool, taken }),
+            Err(Closed) => Err(PullError::Closed),
+        })
     }
 
     /// Borrows what lies at the place.
-    pub(super) fn item(&mut self) -> &mut Option<T> {
+    pub(super) fn entry(&mut self) -> &mut Entry<T> {
         // SAFETY: nobody else has the place, and this borrow of it is the only one.
-        unsafe { &mut *self.pool.slot(self.place).0.get() }
+        unsafe { &mut *self.pool.slot(self.taken.place).0.get() }
     }
 
     /// Changes to a guard. The place has an item.
-    pub(super) fn guard(self) -> LazyReusable<'p, T, E> {
-        self.pool.state(self.place).store(MADE | IN_USE, Relaxed);
+    pub(super) fn guard(mut self) -> LazyReusable<'p, T, E> {
+        self.pool.places.note(&mut self.taken, Kind::Made);
         let held = mem::ManuallyDrop::new(self);
         // SAFETY: the place was pulled, and is the guard's from now on.
-        unsafe { Guard::new(held.pool, held.place) }
+        unsafe { Guard::new(held.pool, held.taken.place) }
     }
 }
 
 impl<T, E> Drop for Held<'_, T, E> {
     #[inline(always)]
     fn drop(&mut self) {
-        let kind = if self.item().is_some() { MADE } else { EMPTY };
-        self.pool.state(self.place).store(kind, Relaxed);
-        // SAFETY: who pulled a place of one kind holds it in both, and its only holder ends here.
-        unsafe { self.pool.kinds[usize::from(kind)].give_back(self.place) };
-        if self.pool.waiters.tell() && kind == MADE {
+        let is_made = self.entry().item.is_some();
+        let now = if is_made { Kind::Made } else { Kind::Empty };
+        self.pool.places.note(&mut self.taken, now);
+        // SAFETY: the place was pulled, and its only holder ends here.
+        let is_closed = unsafe { self.pool.places.give_back(self.taken) };
+        if is_closed && is_made {
             self.pool.clear(); // it was closed meanwhile
         }
     }
@@ -59,38 +90,45 @@ pub(super) fn keep_if<T>(item: &mut Option<T>, is_kept: impl FnOnce(&mut T) -> b
 // SAFETY: each place has a slot of its own.
 unsafe impl<T, E> Source for LazyPool<T, E> {
     type Item = T;
-    type Value = Option<T>;
+    type Value = Entry<T>;
 
-    fn slot(&self, place: usize) -> &Slot<Option<T>> {
+    fn slot(&self, place: usize) -> &Slot<Entry<T>> {
         self.items.slot(place)
     }
 
-    fn item(value: &Option<T>) -> &T {
-        value.as_ref().expect("a guard has an item")
+    fn item(value: &Entry<T>) -> &T {
+        value.item.as_ref().expect("a guard has an item")
     }
 
-    fn item_mut(value: &mut Option<T>) -> &mut T {
-        value.as_mut().expect("a guard has an item")
+    fn item_mut(value: &mut Entry<T>) -> &mut T {
+        value.item.as_mut().expect("a guard has an item")
     }
 
-    /// If the reset rejects the item or panics, or if the pool is closed, the item is dropped. The
-    /// place is returned, also if something panics.
+    /// If the reset rejects the item or panics, or if the pool is closed, or the item too old, it is
+    /// dropped. The place is returned, also if something panics.
     #[inline(always)]
     unsafe fn end(&self, place: usize) {
-        let mut held = Held { pool: self, place };
-        keep_if(held.item(), |item| !self.is_closed() && (self.reset)(item));
+        let was = Kind::Made;
+        let (pool, taken) = (self, Taken { place, was });
+        let mut held = Held { pool, taken };
+        let entry = held.entry();
+        let is_plain = self.places.is_plain();
+        let may_stay = is_plain || (!self.is_closed() && !self.times.is_past(entry));
+        if keep_if(&mut entry.item, |item| may_stay && (self.calls.reset)(item)) && !is_plain {
+            self.times.came(entry);
+        }
     }
 }
 
 impl<T, E, P: Deref<Target = LazyPool<T, E>>> Guard<P, T> {
     /// Drops the item without a reset. Then its place is empty.
     pub fn discard(mut self) {
-        drop(self.value_mut().take());
+        drop(self.value_mut().item.take());
     }
 
     /// Takes the item out of the pool, which may make another one.
     #[must_use = "the item is dropped if it isn't used"]
     pub fn detach(mut self) -> T {
-        self.value_mut().take().expect("a guard has an item")
+        self.value_mut().item.take().expect("a guard has an item")
     }
 }

@@ -9,20 +9,18 @@
 //! One sleeper at a time is woken: a return leaves it at that if one was woken that hasn't looked
 //! yet. So who slept while more than one return was told wakes the next when it has its place. One
 //! that gives up wakes the next too. `tests/waiting_model.rs` explores these steps.
-use std::sync::atomic::{fence, AtomicBool, AtomicUsize, Ordering::SeqCst};
+use super::signs::Signs;
+use std::sync::atomic::{AtomicBool, AtomicUsize, Ordering::SeqCst};
 use std::sync::{Condvar, Mutex, PoisonError};
 use std::time::{Duration, Instant};
-
-/// The bit of `waiting` that says that the pool is closed.
-const CLOSED: usize = 1 << (usize::BITS - 1);
 
 /// When a pull waits no longer, if ever.
 pub(super) type Limit = Option<Instant>;
 
 #[derive(Default)]
 pub(super) struct Waiters {
-    /// How many threads wait, and `CLOSED`.
-    waiting: AtomicUsize,
+    /// How many threads wait, beside other things.
+    pub(super) signs: Signs,
     /// How many returns were told, since somebody waited.
     told: AtomicUsize,
     /// How many threads sleep, and whether one was woken that hasn't looked yet. They are changed
@@ -37,18 +35,17 @@ impl Waiters {
     /// Makes this try until it has an answer. `None` if a last try after the limit has none.
     #[cold]
     pub(super) fn wait<A>(&self, limit: Limit, attempt: impl Fn() -> Option<A>) -> Option<A> {
-        self.waiting.fetch_add(1, SeqCst);
-        fence(SeqCst);
+        self.signs.enter();
         let mut slept = None;
         loop {
             let seen = self.told.load(SeqCst);
             let is_last = left(limit).is_zero();
             let answer = attempt();
             if answer.is_some() || is_last {
-                self.waiting.fetch_sub(1, SeqCst);
+                self.signs.leave();
                 let told = |slept| self.told.load(SeqCst).wrapping_sub(slept);
                 if answer.is_none() || slept.is_some_and(|slept| told(slept) > 1) {
-                    self.tell();
+                    self.pass_on();
                 }
                 return answer;
             }
@@ -71,15 +68,16 @@ impl Waiters {
         true
     }
 
-    /// Wakes one that waits, after a place was returned. Returns whether the pool is closed.
-    #[inline(always)]
-    pub(super) fn tell(&self) -> bool {
-        fence(SeqCst);
-        self.waiting.load(SeqCst) != 0 && self.wake()
+    /// Wakes another one, if one waits.
+    fn pass_on(&self) {
+        if self.signs.load_after().waiting() > 0 {
+            self.wake();
+        }
     }
 
+    /// Wakes one that waits, after a place was returned.
     #[cold]
-    fn wake(&self) -> bool {
+    pub(super) fn wake(&self) {
         self.told.fetch_add(1, SeqCst);
         let is_due = || self.asleep.load(SeqCst) != 0 && !self.is_woken.load(SeqCst);
         let locked = is_due().then(|| self.lock.lock());
@@ -87,26 +85,14 @@ impl Waiters {
             self.is_woken.store(true, SeqCst);
             self.wakes.notify_one();
         }
-        self.is_closed()
     }
 
     /// Says that the pool is closed, and wakes all.
     pub(super) fn close(&self) {
-        self.waiting.fetch_or(CLOSED, SeqCst);
-        fence(SeqCst);
+        self.signs.close();
         self.told.fetch_add(1, SeqCst);
         drop(self.lock.lock());
         self.wakes.notify_all();
-    }
-
-    #[inline(always)]
-    pub(super) fn is_closed(&self) -> bool {
-        self.waiting.load(SeqCst) & CLOSED != 0
-    }
-
-    /// Returns how many wait.
-    pub(super) fn count(&self) -> usize {
-        self.waiting.load(SeqCst) & !CLOSED
     }
 }
 

@@ -1,0 +1,48 @@
+//! Why a pull of a lazy pool gave no item.
+use std::error::Error;
+use std::fmt::{self, Debug, Display, Formatter};
+
+/// Why a pull of a [`LazyPool`](crate::LazyPool) gave no item.
+///
+/// ```
+/// # use kundratu_pool::{LazyPool, PullError};
+/// let pool = LazyPool::new(1, || "x".parse::<u32>(), |_| true)?;
+/// match pool.pull() {
+///     Err(PullError::Init(error)) => assert_eq!(error.to_string(), "invalid digit found in string"),
+///     _ => unreachable!("it isn't a number"),
+/// }
+/// # Ok::<(), kundratu_pool::NewError>(())
+/// ```
+#[derive(Clone, Copy, Debug, PartialEq, Eq)]
+#[non_exhaustive]
+pub enum PullError<E> {
+    /// All items were in use.
+    AllInUse,
+    /// The limit of time is over.
+    TimedOut,
+    /// The pool is closed.
+    Closed,
+    /// The initializer failed, with this error.
+    Init(E),
+}
+
+/// It has no `source`: its words have the initializer's own. So `E` may be a boxed error too, which
+/// is no [`Error`] itself, and `?` turns both into a `Box<dyn Error>`.
+impl<E: Debug + Display> Error for PullError<E> {}
+
+impl<E: Display> Display for PullError<E> {
+    fn fmt(&self, f: &mut Formatter<'_>) -> fmt::Result {
+        match self {
+            PullError::AllInUse => f.write_str("all items are in use"),
+            PullError::TimedOut => f.write_str("no item was free in time"),
+            PullError::Closed => f.write_str("the pool is closed"),
+            PullError::Init(error) => write!(f, "the initializer failed: {error}"),
+        }
+    }
+}
+
+impl<E> From<E> for PullError<E> {
+    fn from(error: E) -> Self {
+        PullError::Init(error)
+    }
+}
