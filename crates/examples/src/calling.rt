@@ -9,6 +9,7 @@
 //! - [`channel`]: owned items over a channel.
 //! - [`attached`]: an item that was made elsewhere.
 //! - [`handed_on`]: a function that hands a pulled item on.
+//! - [`kept_last`]: the value that a spin lock pool kept last.
 //! - [`stores`]: types that keep a pool.
 //! - [`shared`]: two threads that read one item.
 //! - [`defaults`]: values that are made by default, and a refusal as an `io::Error`.
@@ -24,6 +25,7 @@ mod counted;
 mod defaults;
 mod emptied;
 mod handed_on;
+mod kept_last;
 mod rows;
 mod scratch;
 mod shared;

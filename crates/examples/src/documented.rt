@@ -1,7 +1,8 @@
-//! The code that doc comments show, a file for each subject, in tests that run it. `ci/same_code`
-//! compares the lines.
+//! The code that doc comments show or `CALLING.md` names, a file for each subject, in tests that run
+//! it. `ci/same_code` compares the lines.
 //!
 //! - [`linear`], [`fixed`], [`lazy`], [`stacks`], [`none`]: the pools, and their reusables.
+//! - [`owners`]: an owner of a fixed pool, which pulls in a loop.
 //! - [`workers`]: workers of a pool, which keep an item.
 //! - [`stack_notes`]: what notes of a spin lock pool know.
 //! - [`rejecting`]: a reset that rejects values.
@@ -16,6 +17,7 @@ mod fixed;
 mod lazy;
 mod linear;
 mod none;
+mod owners;
 mod parts;
 mod recycled;
 mod rejecting;
