@@ -11,8 +11,9 @@ from world import Form, Thread, World
 Threads = list[Thread]
 # Loads that a store belongs to.
 PAIRS = ("ldaxr", "ldxr")
-# A step that is made weaker: the thread's number, the place, and what is left out.
+# A step that is made weaker: the thread's number, the place, and what is left out. A control has one or several.
 Weaker = tuple[int, str, str]
+Control = Weaker | tuple[Weaker, ...]
 
 
 @dataclass(frozen=True)
@@ -22,8 +23,8 @@ class Test:
     name: str
     breaks: str
     build: Callable[[World, bool], Threads]
-    # For each form or processor, steps that show the fault if they are weaker, one at a time.
-    weaker: dict[str, list[Weaker]] = field(default_factory=dict)
+    # For each form or processor, steps that show the fault if they are weaker, one control at a time.
+    weaker: dict[str, list[Control]] = field(default_factory=dict)
     # Whether the fault may be found: then the test says what isn't promised.
     expected: str = "never"
 
@@ -50,6 +51,17 @@ def lean(steps: list[Step]) -> list[Step]:
     return [step for step, then in zip(steps, [*steps[1:], Step("")]) if not needless(step, then)]
 
 
+def weakened(form: Form, steps: list[list[Step]], control: Control) -> tuple[list[list[Step]], str]:
+    """The steps with those of a control weaker, and what to say of it."""
+    said = []
+    for thread, place, what in control if isinstance(control[0], tuple) else [control]:
+        before, steps = steps, weaker(form.model, steps, thread, place, what)
+        if steps == before:
+            raise Unknown(f"{form.name}: thread {thread} has no {what} at {place}")
+        said.append(f"thread {thread} without {what}{place and ' at '}{place}")
+    return steps, ", ".join(said)
+
+
 def questions(test: Test, form: Form) -> Iterator[Question]:
     """What is asked of a test in this form."""
 
@@ -61,11 +73,8 @@ def questions(test: Test, form: Form) -> Iterator[Question]:
     world = World(form)
     steps = [lean(thread.steps) for thread in test.build(world, True)]
     yield one("", test.breaks, test.expected, world, steps)
-    for thread, place, what in test.weaker.get(form.name, test.weaker.get(form.processor, [])):
-        changed = weaker(form.model, steps, thread, place, what)
-        if changed == steps:
-            raise Unknown(f"{test.name}, {form.name}: thread {thread} has no {what} at {place}")
-        said = f"thread {thread} without {what}{place and ' at '}{place}"
+    for control in test.weaker.get(form.name, test.weaker.get(form.processor, [])):
+        changed, said = weakened(form, steps, control)
         yield one(f" ({said})", "the fault is seen", "possible", world, changed)
     world = World(form)
     if test.expected == "never":

@@ -139,11 +139,28 @@ def closed_kept(world: World, bad: bool) -> Threads:
     return only([giver, closer], "slot", "waiting")
 
 
+def taken_by_close(world: World, bad: bool) -> Threads:
+    """A close takes what a return kept. A pull finds that it is gone, doesn't see the close, and falls asleep."""
+    lazy = Lazy(world)
+    giver = Caller(world, 0)
+    giver.gives_back(lazy)
+    closer = Caller(world, 2, after=giver)
+    closer.closes(lazy)
+    waiter = Caller(world, 1)
+    waiter.finds("slot", closer.left("slot"))
+    if not bad:
+        waiter.finds("told", closer.left("told"))
+    waiter.sleeps(lazy)
+    return only([giver, closer, waiter], "slot", "told")
+
+
 TESTS = [
     Test("unseen", "one sleeps though an item is free: the return didn't see it waiting", unseen,
          {"x86_64": [(0, "", "fence")]}),
     Test("seen", "one sleeps though an item is free: the return didn't see it asleep", seen,
          {"x86_64": [(0, "told", "order"), (1, "asleep", "order")]}),
     Test("closed_kept", "a closed pool keeps an item", closed_kept, {"x86_64": [(0, "", "fence")]}),
+    Test("taken_by_close", "one sleeps though the pool is closed: it saw that the item was gone, and not the close", taken_by_close,
+         {"aarch64": [((2, "slot", "acquire"), (2, "", "fence"))]}),
     Test("closed", "one sleeps though the pool is closed", closed, {"x86_64": [(1, "mutex", "order")], "aarch64": [(1, "mutex", "order")]}),
 ]
