@@ -1,10 +1,15 @@
-/* Handles without end, pools past two million places, and where handles begin: a million handles are opened and dropped, each with a
-   place; handles begin at pages of their own; and a handle's next pull begins where its last one found a place.
+/* Handles without end, pools past two million places, and where handles begin: a million handles
+   are opened and dropped, each with a place; handles begin at pages of their own; and a handle's
+   next pull begins where its last one found a place. Two calls only read a handle.
    usage: test_handles [HANDLES] */
 #include "kundratu_pool.h"
 #include <stdbool.h>
 #include <stdio.h>
 #include <stdlib.h>
+#if !defined(_WIN32)
+#include <sys/mman.h>
+#include <unistd.h>
+#endif
 
 enum { FEW = 64, PAGES = 256, GREAT = 3 * (1 << 20) + 1 };
 
@@ -77,6 +82,22 @@ static void keep_to_a_page(void) {
     kdr_pool_drop(&first);
 }
 
+/* A handle that may only be read has a number of places, and further handles are made of it. */
+static void only_read_a_handle(void) {
+#if !defined(_WIN32)
+    kdr_handle further = KDR_HANDLE_EMPTY;
+    size_t size = (size_t)sysconf(_SC_PAGESIZE);
+    kdr_handle *first = mmap(NULL, size, PROT_READ | PROT_WRITE, MAP_PRIVATE | MAP_ANONYMOUS, -1, 0);
+    check(first != MAP_FAILED && kdr_pool_new(FEW, first) == KDR_DONE, "no pool");
+    check(mprotect(first, size, PROT_READ) == 0, "the handle can't be made read-only");
+    check(kdr_pool_items(first) == FEW, "another number of places");
+    check(kdr_pool_share(first, &further) == KDR_DONE, "no further handle");
+    check(mprotect(first, size, PROT_READ | PROT_WRITE) == 0, "the handle stays read-only");
+    check(kdr_pool_drop(first) == KDR_DONE && kdr_pool_drop(&further) == KDR_DONE, "a handle wasn't dropped");
+    munmap(first, size);
+#endif
+}
+
 int main(int count, char **words) {
     unsigned long handles = count > 1 ? strtoul(words[1], NULL, 10) : 1000000;
     open_and_drop(handles);
@@ -84,6 +105,7 @@ int main(int count, char **words) {
     begin_apart(PAGES);
     begin_apart(17 * 4);
     keep_to_a_page();
+    only_read_a_handle();
     printf("%lu handles were opened and dropped\n", handles);
     return 0;
 }

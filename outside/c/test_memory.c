@@ -1,5 +1,6 @@
-/* What the calls ask of malloc, realloc and free: each refusal is answered by its name and leaves nothing behind, nothing is asked
-   for between the making of handles and their end, and all is given back then. Linked with --wrap for the three. */
+/* What the calls ask of malloc, realloc and free: each refusal is answered by its name and leaves
+   nothing behind, nothing is asked for between the making of handles and their end, and all is given
+   back then. A block of no bytes has an address. Linked with --wrap for the three. */
 #include "kundratu_pool.h"
 #include <malloc.h>
 #include <stdio.h>
@@ -10,7 +11,7 @@ void *__real_realloc(void *block, size_t bytes);
 void __real_free(void *block);
 
 static long asked, held, refuse_at = -1;
-static size_t given_back;
+static size_t asked_bytes, given_back;
 
 static int is_refused(void) {
     return asked++ == refuse_at;
@@ -20,7 +21,7 @@ void *__wrap_malloc(size_t bytes) {
     if (is_refused()) {
         return NULL;
     }
-    void *block = __real_malloc(bytes);
+    void *block = __real_malloc(asked_bytes = bytes);
     held += block != NULL;
     return block;
 }
@@ -29,7 +30,7 @@ void *__wrap_realloc(void *block, size_t bytes) {
     if (is_refused()) {
         return NULL;
     }
-    void *moved = __real_realloc(block, bytes);
+    void *moved = __real_realloc(block, asked_bytes = bytes);
     held += !block && moved;
     return moved;
 }
@@ -149,6 +150,27 @@ static void take_none_by_places(void) {
     check(kdr_pool_drop(&one) == KDR_DONE && held == 0, "a pool of places that are out left memory behind");
 }
 
+/* What the proved code calls for memory. */
+struct got {
+    size_t is_some;
+    void *at;
+};
+struct got kdr_0_1_0_alloc(size_t size, size_t align);
+struct got kdr_0_1_0_realloc(void *at, size_t old, size_t size, size_t align);
+void kdr_0_1_0_dealloc(void *at);
+
+/* No pool asks for no bytes, and one that did would get an address of its own. */
+static void take_no_bytes(void) {
+    struct got none = kdr_0_1_0_alloc(0, 16);
+    check(asked_bytes == 16 && none.is_some == 1 && none.at != NULL, "a block of no bytes has no address");
+    struct got moved = kdr_0_1_0_realloc(none.at, 0, 64, 16);
+    check(asked_bytes == 64 && moved.is_some == 1, "a block isn't made longer");
+    none = kdr_0_1_0_realloc(moved.at, 64, 0, 16);
+    check(asked_bytes == 16 && none.is_some == 1 && none.at != NULL, "a block that shrank to none has no address");
+    kdr_0_1_0_dealloc(none.at);
+    check(held == 0, "a block of no bytes was left behind");
+}
+
 int main(void) {
     long requests = requests_of_new();
     refuse_new(requests);
@@ -156,6 +178,7 @@ int main(void) {
     refuse_share();
     take_none_between();
     take_none_by_places();
+    take_no_bytes();
     printf("%d faults\n", faults);
     return faults != 0;
 }
