@@ -6,6 +6,7 @@
 #define _POSIX_C_SOURCE 200809L
 #include "kundratu_pool.h"
 #include <stdatomic.h>
+#include <stdbool.h>
 #include <stdio.h>
 #include <stdlib.h>
 #if defined(_WIN32)
@@ -152,9 +153,11 @@ static void listen_to_ends(void) {
 #endif
 
 kdr_status KDR_CALL kdr_debug_place_return(kdr_handle *handle, kdr_place *place, const char *file, int line) {
-    static atomic_flag listens = ATOMIC_FLAG_INIT;
-    if (!atomic_flag_test_and_set(&listens)) {
+    /* Until the handlers are there, each thread puts them there, so that none goes on without. */
+    static atomic_bool listens;
+    if (!atomic_load(&listens)) {
         listen_to_ends();
+        atomic_store(&listens, true);
     }
     returning.number = kdr_place_number(place);
     returning.line = line;

@@ -37,6 +37,15 @@ static kdr_place pull(kdr_handle *handle) {
     return place;
 }
 
+/* An emulator says how its program ended, behind what the program said. */
+static void forget_the_emulator(char *said) {
+    char *note = strstr(said, "qemu: uncaught target signal ");
+    if (note != NULL) {
+        *note = 0;
+        said_length = (size_t)(note - said);
+    }
+}
+
 /* How a child ends that makes this call, and what it says. */
 static int end_of(void (*call)(void), char *said, size_t room) {
     int ends[2], status = 0;
@@ -56,6 +65,7 @@ static int end_of(void (*call)(void), char *said, size_t room) {
     }
     said[length] = 0;
     said_length = length;
+    forget_the_emulator(said);
     close(ends[0]);
     check(waitpid(child, &status, 0) == child, "no child ended");
     return status;
@@ -132,6 +142,41 @@ static void name_the_threads_return(void) {
     }
 }
 
+#if defined(__linux__)
+/* The thread whose return is the program's first one stays where it asks for the signals. */
+static atomic_bool holds_up, is_held_up;
+int __real_sigaction(int sent, const struct sigaction *new, struct sigaction *old);
+
+int __wrap_sigaction(int sent, const struct sigaction *new, struct sigaction *old) {
+    if (!atomic_exchange(&holds_up, false)) {
+        return __real_sigaction(sent, new, old);
+    }
+    atomic_store(&is_held_up, true);
+    for (;;) {
+        pause();
+    }
+}
+
+static void return_a_copy_beside_the_first(void) {
+    pthread_t thread;
+    atomic_store(&holds_up, true);
+    check(pthread_create(&thread, NULL, return_well, NULL) == 0, "no thread");
+    while (!atomic_load(&is_held_up)) {
+    }
+    return_a_copy();
+}
+
+static void name_a_return_beside_the_first(void) {
+    char said[1024];
+    doing = "a copied place while the first return is held up";
+    check(is_ended_by(end_of(return_a_copy_beside_the_first, said, sizeof said), SIGABRT), "no abort");
+    check(strncmp(said, "short.c:", 8) == 0, said);
+}
+#else
+static void name_a_return_beside_the_first(void) {
+}
+#endif
+
 /* Another end of the program than by a return, after one. */
 static void refuse_elsewhere(void) {
     kdr_handle first = new_pool();
@@ -193,6 +238,7 @@ int main(void) {
     name_the_return();
     cut_the_message();
     name_the_threads_return();
+    name_a_return_beside_the_first();
     leave_other_ends();
     leave_own_handlers();
     compare_answers();
