@@ -145,16 +145,18 @@ enum end { BY_REFUSAL, BY_ABORT, OTHERWISE };
 #if defined(_WIN32)
 static const char *program;
 
+/* Each has a file of its own: what looks into a program that ended may still have that open. */
 static enum end end_of_a_copy(bool debug, char *said, size_t room) {
+    const char *word = debug ? "debug" : "plain", *name = debug ? "said_debug.txt" : "said_plain.txt";
     char command[1024];
-    snprintf(command, sizeof command, "\"%s\" %s 2>said.txt", program, debug ? "debug" : "plain");
+    snprintf(command, sizeof command, "\"%s\" %s 2>%s", program, word, name);
     fflush(stdout);
     unsigned status = (unsigned)system(command);
-    FILE *file = fopen("said.txt", "r");
+    FILE *file = fopen(name, "r");
     check(file != NULL, "no file");
     said[fread(said, 1, room - 1, file)] = 0;
     fclose(file);
-    remove("said.txt");
+    remove(name);
     return status == 0xC000001D ? BY_REFUSAL : status == 3 ? BY_ABORT : OTHERWISE;
 }
 #else
