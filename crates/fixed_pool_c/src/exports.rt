@@ -76,8 +76,8 @@ pub extern "C" fn kdr_handle_items(alloc: Global, handle: &mut Handle) -> usize
     items
 }
 
-/// Takes a place. The pull begins at the page of the handle's last place, and at first at a page of
-/// its own.
+/// Takes a place. The pull begins at a page of the handle's own, and stays there while it has free
+/// places.
 ///
 /// # Errors
 ///
@@ -89,7 +89,7 @@ pub extern "C" fn kdr_pool_pull(alloc: Global, handle: &mut Handle, place: &mut 
     let Some(held) = handle.take(alloc) else {
         return NO_POOL;
     };
-    let page = held.page;
+    let page = held.way.page();
     pull_at(handle, held, page, place)
 }
 
@@ -131,7 +131,7 @@ fn pull_at(handle: &mut Handle, mut held: Box<OpenHandle>, page: usize, place: &
         Some(HandleState::Empty(Idle { pool, note })) => match pool.pull_by_owner(page, note) {
             Ok(out) => {
                 *place = out.number();
-                held.page = out.page_number();
+                held.way.go_on(page, out.page_number(), out.owner().items());
                 handle.hold(held, HandleState::Full(out));
                 DONE
             }
@@ -186,7 +186,7 @@ pub extern "C" fn kdr_pool_drop(alloc: Global, handle: &mut Handle) -> u32
         return NO_POOL;
     };
     let OpenHandle {
-        page: _page,
+        way: _way,
         tag: _tag,
         handles: _handles,
         state,

@@ -13,3 +13,4 @@ mod open_handle;
 mod place;
 mod places;
 mod raw_box;
+mod way;

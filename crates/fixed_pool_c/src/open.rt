@@ -8,16 +8,12 @@ ghost use Rattle.fixed_pool_c.specs.declared.open_handle.HandleState.{HandleStat
 
 use crate::answer::{NO_MEMORY, NO_POOL};
 use crate::open_handle::{HandleState, Idle, OpenHandle, PlacePool};
+use crate::way::Way;
 use fixed_pools::closures::{Copied, Keep};
-use fixed_pools::page::PAGE_ITEMS;
 use std::alloc::Global;
 use std::sync::Arc;
 use std::sync::atomic::AtomicUsize;
 use std::sync::atomic::Ordering::SeqCst;
-
-/// How many pages apart handles begin. In a pool of many pages their words then lie on cache lines
-/// of their own.
-const PAGES_APART: usize = 17;
 
 impl HandleState {
     /// Returns the pool's owner, whether a place is held or not.
@@ -113,13 +109,13 @@ impl OpenHandle {
     ) -> Option<Box<OpenHandle>>
         ensures { IfSome result (λ held. OpensOf (arc_value pool) tag held.value) }
     {
-        let page = start_page(handles.fetch_add(1, SeqCst), pool.items());
+        let way = Way::new(handles.fetch_add(1, SeqCst), pool.items());
         let note = pool.note();
         let state = Some(HandleState::Empty(Idle { pool, note }));
         match Box::new(
             alloc,
             OpenHandle {
-                page,
+                way,
                 tag,
                 handles,
                 state,
@@ -129,15 +125,4 @@ impl OpenHandle {
             Err(_) => None,
         }
     }
-}
-
-/// Returns the page at which the handle of this number begins, in a pool of so many items: no two
-/// handles at one, while there are pages.
-fn start_page(handle: usize, items: usize) -> usize {
-    let step = if items.div_ceil(PAGE_ITEMS) % PAGES_APART == 0 {
-        1
-    } else {
-        PAGES_APART
-    };
-    handle.wrapping_mul(step)
 }

@@ -4,6 +4,7 @@ ghost use Rattle.std.specs.Arc.{arc_value};
 ghost use Rattle.fixed_pools.specs.FixedPool.{fixed_view};
 ghost use Rattle.pool_parts.specs.Item.{same_page};
 
+use crate::way::Way;
 use fixed_pools::clean::AnyValue;
 use fixed_pools::closures::{Copied, Keep};
 use fixed_pools::fixed_object_pool::PoolNote;
@@ -42,12 +43,10 @@ pub struct FinalNote {
 /// The contents of an open handle.
 #[derive(Drop)]
 pub struct OpenHandle {
-    /// At which page its next pull begins, counted round and round. It promises nothing.
-    pub page: usize,
+    pub way: Way,
     /// The pool's tag, which its places bear.
     pub tag: usize,
-    /// How many handles the pool has had. It promises nothing but that the pages at which handles
-    /// begin differ.
+    /// How many handles the pool has had. It promises nothing but that their ways differ.
     pub handles: Arc<AtomicUsize>,
     /// `None` only within a call.
     pub state: Option<HandleState>,

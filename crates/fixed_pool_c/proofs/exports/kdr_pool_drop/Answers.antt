@@ -5,7 +5,7 @@ use Rattle.fixed_pool_c.proofs.exports.kdr_pool_drop.Goals as goal
 
 pub returns-in-Some-Full : goal.returns-in-Some-Full
 returns-in-Some-Full c =
-    let had = ap (λ (held : OpenHandle). held.state) c.into_inner-page.ensures in
+    let had = ap (λ (held : OpenHandle). held.state) c.into_inner-tag.ensures in
     inl (
       refl,
       c.close.ensures.empty,
