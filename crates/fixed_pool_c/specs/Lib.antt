@@ -5,3 +5,6 @@ pub mod Number
 pub mod Refusals
 pub mod PermitOwns
 pub mod Places
+pub mod Kept
+pub mod CacheOwns
+pub mod Caches

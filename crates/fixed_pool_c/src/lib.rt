@@ -1,14 +1,18 @@
 //! A fixed pool of places for C: a place is a number, and threads take and return places without a
 //! lock.
 //!
-//! The exported calls are in `exports` and `places`, and `outside/c/kundratu_pool.h` declares them
-//! for C.
+//! The exported calls are in `exports`, `places` and `caches`, and `outside/c/kundratu_pool.h`
+//! declares them for C.
 #![tactic(auto)]
 
 pub mod answer;
+mod cache;
+mod caches;
 mod exports;
 mod handle;
+mod keeping;
 mod open;
+mod open_cache;
 mod open_handle;
 mod place;
 mod places;

@@ -34,8 +34,8 @@ pub enum HandleState {
     Full(PlaceInUse),
 }
 
-/// The note that a closed handle keeps: what it knew of its pool's history at its end. It has no
-/// bytes.
+/// The note that a closed handle or cache keeps: what it knew of its pool's history at its end. It
+/// has no bytes.
 pub struct FinalNote {
     pub note: ManuallyDrop<PoolNote<()>>,
 }
@@ -46,7 +46,8 @@ pub struct OpenHandle {
     pub way: Way,
     /// The pool's tag, which its places bear.
     pub tag: usize,
-    /// How many handles the pool has had. It promises nothing but that their ways differ.
+    /// How many handles and caches the pool has had. It promises nothing but that their ways
+    /// differ.
     pub handles: Arc<AtomicUsize>,
     /// `None` only within a call.
     pub state: Option<HandleState>,

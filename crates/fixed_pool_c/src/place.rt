@@ -124,6 +124,7 @@ impl Place {
         ensures tag { IfOk result (λ _. self.old.tag ≡ tag) }
         ensures in_pool { IfOk result (λ _. self.old.after ≤ items) }
         ensures number { IfOk result (λ holding. self.old.after ≡ holding.number + 1) }
+        ensures emptied { IfOk result (λ _. (self.new.after ≡ 0) × (self.new.permit.held ≡ None)) }
         ensures same { IfErr result (λ _. self.new ≡ self.old) }
         ensures refused { IfErr result (λ answer. IsRefusal answer tag items self.old) }
     {

@@ -1,11 +1,12 @@
-//! At which pages a handle pulls.
+//! At which pages a handle or a cache pulls.
 use fixed_pools::page::PAGE_ITEMS;
 
 /// How many pages apart ways begin. In a pool of many pages their words then lie on cache lines of
 /// their own.
 const PAGES_APART: usize = 17;
 
-/// At which page pulls begin, so that the handles of a pool seldom meet. It promises nothing.
+/// At which page pulls begin, so that the handles and caches of a pool seldom meet. It promises
+/// nothing.
 #[derive(Drop)]
 pub struct Way {
     page: usize,
@@ -29,6 +30,12 @@ impl Way {
             apart: page.wrapping_add(step),
             moves: 0,
         }
+    }
+
+    /// Makes the same way, but for the page at which it begins.
+    pub(crate) fn beginning_at(self, page: usize) -> Way {
+        let Way { apart, moves, .. } = self;
+        Way { page, apart, moves }
     }
 
     /// Returns the page at which the next pull begins. Pages are counted round and round.
