@@ -12,6 +12,8 @@ from unwind import with_unwinding
 MEMORY = {"rattle_alloc": "alloc", "rattle_realloc": "realloc", "rattle_dealloc": "dealloc"}
 COMMENT = {X86_64: "#", AARCH64: "//"}
 JUMP = re.compile(r"(j\w+|b|b\.\w+|cbn?z|tbn?z)$")
+# How a function is called, or left for another one: on x86-64 by a conditional jump too.
+TO_A_FUNCTION = re.compile(r"(callq?|j\w+|bl|b)$")
 
 
 @dataclass(frozen=True)
@@ -105,7 +107,7 @@ class Text:
         """The lines of a function."""
         short = self.names[section.name]
         name, instructions = self.prefix + short, self.instructions[section.name]
-        targets = self.targets(section.name, short)
+        targets = self.targets(section, short)
         lines = ["", f"{self.comment} {source_name(section)}"]
         lines += [f"\t.section .text.{name}, \"ax\", %progbits", f"\t.p2align {section.align.bit_length() - 1}"]
         if section.symbols[0].is_global:
@@ -118,21 +120,22 @@ class Text:
             code.append("\t" + self.instruction(section, one, targets, as_bytes))
         return [*lines, *with_unwinding(self.code.machine, code), f"\t.size {name}, . - {name}"]
 
-    def targets(self, section: str, short: str) -> dict[int, str]:
+    def targets(self, section: Section, short: str) -> dict[int, str]:
         """A label of each instruction to which one of the function jumps."""
-        starts = {one.at for one in self.instructions[section]}
-        found = sorted({target_of(one) for one in self.instructions[section] if jumps(one)})
+        instructions = self.instructions[section.name]
+        starts = {one.at for one in instructions}
+        found = sorted({target_of(one) for one in instructions if jumps(one) and not asked(section, one)})
         if not set(found) <= starts:
-            raise Unknown(f"{section}: a jump to no instruction")
+            raise Unknown(f"{section.name}: a jump to no instruction")
         return {at: f"{self.label}{short}_{number}" for number, at in enumerate(found, 1)}
 
     def instruction(self, section: Section, one: Instruction, targets: dict[int, str], as_bytes: set[str]) -> str:
         """The line of an instruction."""
-        asked = [link for link in section.relocations if one.at <= link.at < one.end()]
-        if len(asked) > 1:
+        links = asked(section, one)
+        if len(links) > 1:
             raise Unknown(f"{section.name}: two addresses in one instruction")
-        if asked:
-            return f"{one.mnemonic}\t{self.linked(one, asked[0])}"
+        if links:
+            return f"{one.mnemonic}\t{self.linked(one, links[0])}"
         if jumps(one):
             start = one.operands[: re.search(r"(0x)?[0-9a-f]+( <.*>)?$", one.operands).start()]
             return f"{one.mnemonic}\t{start}{targets[target_of(one)]}"
@@ -146,7 +149,7 @@ class Text:
     def linked(self, one: Instruction, link: Relocation) -> str:
         """The operands of an instruction that has the address of a function or of a constant."""
         if link.kind == CALL:
-            if (one.mnemonic not in ("callq", "call", "jmp", "bl", "b")) or link.addend not in (0, -4):
+            if not TO_A_FUNCTION.match(one.mnemonic) or link.addend not in (0, -4):
                 raise Unknown(f"a call by {one.said()}")
             return self.prefix + self.names[link.symbol]
         if self.code.machine == X86_64:
@@ -187,6 +190,11 @@ class Text:
             words = ", ".join(f"0x{byte:02x}" for byte in section.content[at : at + size])
             lines += [f"{self.label}constant_{size}_{at // size}:", f"\t.byte {words}"]
         return lines
+
+
+def asked(section: Section, one: Instruction) -> list[Relocation]:
+    """The addresses in an instruction that a linker fills in."""
+    return [link for link in section.relocations if one.at <= link.at < one.end()]
 
 
 def jumps(one: Instruction) -> bool:

@@ -193,8 +193,8 @@ KDR_NODISCARD kdr_status KDR_CALL kdr_pool_new(size_t items, kdr_handle *out) KD
 /**
  * Creates a further handle of the same pool.
  *
- * Handles begin their pulls at pages of their own while there are pages, so threads that have one
- * each seldom meet.
+ * Handles begin their pulls at pages of their own while there are pages. A handle whose page is
+ * full goes on at another one, apart from others. So threads that have one each seldom meet.
  *
  * @param handle a handle of the pool, which may hold a place. Nothing else may use it meanwhile.
  * @param out    an empty handle, which becomes a handle of the pool. It holds no place.
@@ -218,7 +218,8 @@ KDR_NODISCARD kdr_status KDR_CALL kdr_pool_share(const kdr_handle *handle, kdr_h
 KDR_NODISCARD kdr_status KDR_CALL kdr_pool_pull(kdr_handle *handle, size_t *number) KDR_NONNULL;
 
 /**
- * Pulls a place as kdr_pool_pull() does, but looks at this page first.
+ * Pulls a place as kdr_pool_pull() does, but looks at this page first. If it takes a place there,
+ * the handle's next pulls begin there.
  *
  * @param page the number of a page of KDR_PAGE_PLACES places. Pages are counted round and round, so
  *             any number will do.

@@ -1,6 +1,7 @@
-/* Handles without end, pools past two million places, and where handles begin: a million handles
-   are opened and dropped, each with a place; handles begin at pages of their own; and a handle's
-   next pull begins where its last one found a place. Two calls only read a handle.
+/* Handles without end, pools past two million places, and where handles begin: a million handles are
+   opened and dropped, each with a place; handles begin at pages of their own, and go on at such pages
+   once theirs are full; and after a pull near a page, a handle's next one begins there too. Two calls
+   only read a handle.
    usage: test_handles [HANDLES] */
 #include "kundratu_pool.h"
 #include <stdbool.h>
@@ -11,7 +12,7 @@
 #include <unistd.h>
 #endif
 
-enum { FEW = 64, PAGES = 256, GREAT = 3 * (1 << 20) + 1 };
+enum { FEW = 64, THREADS = 8, PAGES = 256, GREAT = 3 * (1 << 20) + 1 };
 
 static void check(bool holds, const char *what) {
     if (!holds) {
@@ -98,6 +99,35 @@ static void only_read_a_handle(void) {
 #endif
 }
 
+/* The pages at which handles begin are full. Their first pulls come to one page, and the next ones go on apart. */
+static void go_apart(void) {
+    static kdr_handle handles[THREADS];
+    bool taken[PAGES] = {false};
+    check(kdr_pool_new(PAGES * KDR_PAGE_PLACES, &handles[0]) == KDR_DONE, "no pool");
+    for (size_t at = 0; at < THREADS; at++) {
+        check(at == 0 || kdr_pool_share(&handles[0], &handles[at]) == KDR_DONE, "no handle");
+        size_t page = pull(&handles[at]) / KDR_PAGE_PLACES;
+        check(kdr_pool_return(&handles[at]) == KDR_DONE, "no return");
+        for (size_t more = 0; more < KDR_PAGE_PLACES; more++) {
+            kdr_place place = KDR_PLACE_EMPTY; /* it stays out */
+            check(kdr_place_pull(&handles[0], page, &place) == KDR_DONE, "no place");
+        }
+    }
+    size_t first = pull(&handles[0]) / KDR_PAGE_PLACES;
+    for (size_t at = 0; at < THREADS; at++) {
+        check(at == 0 || pull(&handles[at]) / KDR_PAGE_PLACES == first, "a full pool's pages have two hints");
+        check(kdr_pool_return(&handles[at]) == KDR_DONE, "no return");
+    }
+    for (size_t at = 0; at < THREADS; at++) {
+        size_t page = pull(&handles[at]) / KDR_PAGE_PLACES;
+        check(!taken[page], "two handles went on at one page");
+        taken[page] = true;
+    }
+    for (size_t at = 0; at < THREADS; at++) {
+        check(kdr_pool_drop(&handles[at]) == KDR_DONE, "no end");
+    }
+}
+
 int main(int count, char **words) {
     unsigned long handles = count > 1 ? strtoul(words[1], NULL, 10) : 1000000;
     open_and_drop(handles);
@@ -106,6 +136,7 @@ int main(int count, char **words) {
     begin_apart(17 * 4);
     keep_to_a_page();
     only_read_a_handle();
+    go_apart();
     printf("%lu handles were opened and dropped\n", handles);
     return 0;
 }
