@@ -63,6 +63,10 @@ kdr_\call:
         ENTRY pool_drop
         ENTRY place_pull
         ENTRY place_return
+        ENTRY cache_pull
+        ENTRY cache_return
+        ENTRY cache_flush
+        ENTRY cache_drop
 
 #if defined(__ELF__)
 /* Of this file: x86-64's indirect branch tracking and shadow stack, or AArch64's branch targets. */

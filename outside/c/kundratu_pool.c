@@ -19,6 +19,7 @@
 #endif
 
 #undef kdr_place_return
+#undef kdr_cache_return
 
 /* Each file of the library sees these, and no other does. */
 #if defined(_WIN32)
@@ -33,6 +34,8 @@
 INSIDE kdr_status KDR_CALL PROVED(handle_new)(size_t items, size_t tag, kdr_handle *out);
 INSIDE kdr_status KDR_CALL PROVED(handle_share)(kdr_handle *handle, kdr_handle *out);
 INSIDE size_t KDR_CALL PROVED(handle_items)(kdr_handle *handle);
+INSIDE kdr_status KDR_CALL PROVED(cache_new)(kdr_handle *handle, size_t room, size_t page, kdr_cache *out);
+INSIDE _Bool KDR_CALL PROVED(cache_keeps)(kdr_cache *cache, size_t number, size_t tag);
 
 /* Whether there was memory, and where. The proofs count on an address that isn't null, also if there
    was none. */
@@ -83,8 +86,8 @@ kdr_status KDR_CALL kdr_pool_new(size_t items, kdr_handle *out) {
     return PROVED(handle_new)(items, atomic_fetch_add_explicit(&pools, 1, memory_order_relaxed) + 1, out);
 }
 
-/* While a call runs, it takes its handle apart. So these two move it to where they may write, and
-   leave the caller's as it is. */
+/* While a call runs, it takes its handle apart. So these move it to where they may write, and leave
+   the caller's as it is. */
 kdr_status KDR_CALL kdr_pool_share(const kdr_handle *handle, kdr_handle *out) {
     kdr_handle moved = *handle;
     return PROVED(handle_share)(&moved, out);
@@ -95,18 +98,24 @@ size_t KDR_CALL kdr_pool_items(const kdr_handle *handle) {
     return PROVED(handle_items)(&moved);
 }
 
+kdr_status KDR_CALL kdr_cache_new(const kdr_handle *handle, size_t room, size_t page, kdr_cache *out) {
+    kdr_handle moved = *handle;
+    return PROVED(cache_new)(&moved, room, page, out);
+}
+
 /* What this thread returns meanwhile, for the message. */
 static _Thread_local struct {
     const char *file;
     int line;
+    const char *call;
     size_t number;
 } returning;
 
-/* Says which return it was, and aborts. */
-static void say_and_abort(void) {
+/* Says which return it was, and how the place was found, and aborts. */
+static void say_and_abort(const char *found) {
     char said[512];
-    int length = snprintf(said, sizeof said, "%s:%d: kdr_place_return: place %zu is free: it was copied, and returned before\n",
-                          returning.file, returning.line, returning.number);
+    int length = snprintf(said, sizeof said, "%s:%d: %s: place %zu is %s: it was copied, and returned before\n",
+                          returning.file, returning.line, returning.call, returning.number, found);
     unsigned rest = length < 0 ? 0 : (unsigned)length < sizeof said ? (unsigned)length : sizeof said - 1;
     if (write(STDERR_FILENO, said, rest) < 0) {
         abort();
@@ -118,7 +127,7 @@ static void say_and_abort(void) {
 #if defined(_WIN32)
 static LONG CALLBACK end_by_exception(EXCEPTION_POINTERS *what) {
     if (what->ExceptionRecord->ExceptionCode == EXCEPTION_ILLEGAL_INSTRUCTION && returning.file != NULL) {
-        say_and_abort();
+        say_and_abort("free");
     }
     return EXCEPTION_CONTINUE_SEARCH;
 }
@@ -133,7 +142,7 @@ static void end_by_signal(int sent) {
         raise(sent);
         return;
     }
-    say_and_abort();
+    say_and_abort("free");
 }
 
 /* Signals for which the program has a handler of its own are left to it. */
@@ -152,17 +161,34 @@ static void listen_to_ends(void) {
 }
 #endif
 
-kdr_status KDR_CALL kdr_debug_place_return(kdr_handle *handle, kdr_place *place, const char *file, int line) {
+/* From here on a signal of this thread is told of this return, until there is no file. */
+static void begin_return(const char *call, const kdr_place *place, const char *file, int line) {
     /* Until the handlers are there, each thread puts them there, so that none goes on without. */
     static atomic_bool listens;
     if (!atomic_load(&listens)) {
         listen_to_ends();
         atomic_store(&listens, true);
     }
+    returning.call = call;
     returning.number = kdr_place_number(place);
     returning.line = line;
     returning.file = file;
-    kdr_status status = kdr_place_return(handle, place);
+}
+
+static kdr_status end_return(kdr_status status) {
     returning.file = NULL;
     return status;
+}
+
+kdr_status KDR_CALL kdr_debug_place_return(kdr_handle *handle, kdr_place *place, const char *file, int line) {
+    begin_return("kdr_place_return", place, file, line);
+    return end_return(kdr_place_return(handle, place));
+}
+
+kdr_status KDR_CALL kdr_debug_cache_return(kdr_cache *cache, kdr_place *place, const char *file, int line) {
+    begin_return("kdr_cache_return", place, file, line);
+    if (PROVED(cache_keeps)(cache, kdr_place_number(place), place->pool)) {
+        say_and_abort("kept");
+    }
+    return end_return(kdr_cache_return(cache, place));
 }

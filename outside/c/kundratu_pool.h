@@ -18,58 +18,59 @@
  * or the end of a thread, or by a release store and the acquire load that reads it. A place goes as
  * its bytes; what it was moved from isn't used again.
  *
- * A thread may keep places that it returns, and pull them again without a call, in an array of its
- * own. To all others they are in use: pulls of theirs are refused if too many are kept. A thread
- * returns them at its end.
+ * A thread that pulls and returns again and again has a cache (kdr_cache), made by kdr_cache_new().
+ * The cache keeps places that the thread returns by it, and the thread's next pulls take these, the
+ * last one first, without a step on the pool. So a pull and a return cost some nanoseconds. To all
+ * others the places are in use: pulls of theirs are refused if too many are kept. A thread drops
+ * its cache at its end, which returns them. With a cache of 8 places:
  *
- *     kdr_place kept[8];
- *     size_t count = 0;
+ *     kdr_cache cache = KDR_CACHE_EMPTY;
+ *     kdr_place place = KDR_PLACE_EMPTY;
  *
- *     if (count > 0)                  // a pull
- *         place = kept[--count];
- *     else
- *         status = kdr_place_pull(&handle, page, &place);
+ *     status = kdr_cache_new(&handle, 8, page, &cache);
+ *     status = kdr_cache_pull(&cache, &place);
+ *     kdr_cache_return(&cache, &place);
+ *     kdr_cache_drop(&cache);
  *
- *     if (count < 8) {                // a return
- *         kept[count++] = place;
- *         place = KDR_PLACE_EMPTY;
- *     } else
- *         kdr_place_return(&handle, &place);
- *
- * No call waits for another thread. kdr_pool_new() and kdr_pool_share() allocate memory, and no
- * other call does. A pool ends with its last handle; places that are in use can't be returned then.
+ * No call waits for another thread. kdr_pool_new(), kdr_pool_share() and kdr_cache_new() allocate
+ * memory, and no other call does. A pool ends with its last handle or cache; places that are in use
+ * can't be returned then.
  *
  * The calls are proved, under these conditions, which nothing checks:
  *
  * - Each pointer is valid, aligned and not null. Two pointers that go to one call point to
  *   different things.
- * - A handle is KDR_HANDLE_EMPTY, or what the last call with it left. It isn't copied.
- * - One call at a time uses a handle or a place.
+ * - A handle is KDR_HANDLE_EMPTY, or what the last call with it left. It isn't copied. The same
+ *   holds for a cache and KDR_CACHE_EMPTY.
+ * - One call at a time uses a handle, a cache or a place.
  * - No call is made by a signal handler, or in the child of a fork of a process that has threads.
  * - malloc, realloc and free come from one allocator, and align as C says.
  *
  * These mistakes have an answer, and change nothing:
  *
- * - A handle or a place whose bytes are all 0 is empty.
+ * - A handle, a cache or a place whose bytes are all 0 is empty.
  * - A place is pulled that isn't empty: KDR_HOLDS_ONE. An empty one is returned, such as one that
  *   was returned before: KDR_HOLDS_NONE.
- * - A place is returned by a handle of another pool, even of one that has ended: KDR_OTHER_POOL.
- *   It is returned there, if a handle of its own pool returns it later.
+ * - A place is returned by a handle or a cache of another pool, even of one that has ended:
+ *   KDR_OTHER_POOL. It can still be returned to its own pool.
  * - A place is returned whose bytes were made up: KDR_OTHER_POOL, or KDR_NO_SUCH_PLACE if its
  *   number is none of the pool's. If they name a place of that pool, they are a copy.
  *
  * A place must not be copied and returned twice. If the place is free at the second return, the
  * program ends by a signal (SIGILL on x86-64, SIGTRAP on AArch64). With KDR_DEBUG defined before
  * this header is included, it says where and aborts. If somebody else holds the place by then, the
- * second return is done: the place is free while it is held.
+ * second return is done: the place is free while it is held. A cache with room keeps a copy without
+ * a look at the pool, so two pulls may take one place. With KDR_DEBUG it says where and aborts, if
+ * the same cache keeps the place already.
  *
  * These mistakes have no answer that one can count on:
  *
- * - Two threads use one handle at once. Calls may return KDR_NO_POOL, and the handle may be empty
- *   from then on for both. The pool isn't freed then, and nothing says so.
- * - A handle is copied. Both may be used by turns until one is closed; then the other is invalid.
- * - The bytes of a handle are made up, or a pointer is null. The program reads or writes memory
- *   that isn't the library's.
+ * - Two threads use one handle or one cache at once. Calls may return KDR_NO_POOL, and it may be
+ *   empty from then on for both. The pool isn't freed then, and nothing says so.
+ * - A handle or a cache is copied. Both may be used by turns until one is closed; then the other is
+ *   invalid.
+ * - The bytes of a handle or a cache are made up, or a pointer is null. The program reads or writes
+ *   memory that isn't the library's.
  *
  * ThreadSanitizer doesn't see the library's atomic steps. If a program is built with it, tell it
  * their order:
@@ -132,15 +133,18 @@ enum {
     KDR_ALL_IN_USE = 1,   /**< All places were in use at one moment (see kdr_pool_pull()). */
     KDR_HOLDS_ONE = 2,    /**< The handle holds a place already, or the place isn't empty. */
     KDR_HOLDS_NONE = 3,   /**< The handle holds no place, or the place is empty. */
-    KDR_NO_POOL = 4,      /**< The handle is empty. */
-    KDR_HAS_POOL = 5,     /**< The handle that was to be made isn't empty. */
+    KDR_NO_POOL = 4,      /**< The handle or the cache is empty. */
+    KDR_HAS_POOL = 5,     /**< The handle or the cache that was to be made isn't empty. */
     KDR_NO_PLACES = 6,    /**< A pool of no places was asked for. */
-    KDR_NO_MEMORY = 7,    /**< Memory was refused, or the pool can have no more handles. */
+    KDR_NO_MEMORY = 7,    /**< Memory was refused, or there are too many handles and caches. */
     KDR_OTHER_POOL = 8,   /**< The place is of another pool. */
     KDR_NO_SUCH_PLACE = 9 /**< The pool has no place of that number. */
 };
 
-/** How many places a page has. kdr_pool_pull_near() and kdr_place_pull() begin at a page. */
+/**
+ * How many places a page has. kdr_pool_pull_near(), kdr_place_pull() and kdr_cache_new() take the
+ * number of a page.
+ */
 #define KDR_PAGE_PLACES 32
 
 /** A handle of a pool, or an empty one. Its field is private. */
@@ -154,16 +158,23 @@ typedef struct kdr_place {
     size_t pool;
 } kdr_place;
 
+/** A cache of places for one thread at a time, or an empty one. Its field is private. */
+typedef struct kdr_cache {
+    void *at;
+} kdr_cache;
+
 /** What kdr_place_number() returns for an empty place. */
 #define KDR_NO_PLACE SIZE_MAX
 
-/** An empty handle and an empty place, to initialize one and to assign to one. */
+/** An empty handle, an empty place and an empty cache, to initialize one and to assign to one. */
 #ifdef __cplusplus
 #define KDR_HANDLE_EMPTY (kdr_handle())
 #define KDR_PLACE_EMPTY (kdr_place())
+#define KDR_CACHE_EMPTY (kdr_cache())
 #else
 #define KDR_HANDLE_EMPTY ((kdr_handle){NULL})
 #define KDR_PLACE_EMPTY ((kdr_place){0, 0})
+#define KDR_CACHE_EMPTY ((kdr_cache){NULL})
 #endif
 
 /** Returns the number of a place, or KDR_NO_PLACE if it is empty. */
@@ -238,6 +249,9 @@ kdr_status KDR_CALL kdr_pool_return(kdr_handle *handle) KDR_NONNULL;
  * Pulls a free place by itself, as kdr_pool_pull() does. The handle stays as it is, whether it
  * holds a place or not.
  *
+ * Pulls whose page is full come to one page, by a hint of the pool. So a thread doesn't follow the
+ * place that it gets to its page, but goes on at a page of its own, as a cache does by itself.
+ *
  * @param page  the page at which the call looks first, as kdr_pool_pull_near() has it.
  * @param place an empty place, which becomes the one that was pulled. After a failure it is as
  *              before.
@@ -256,12 +270,63 @@ KDR_NODISCARD kdr_status KDR_CALL kdr_place_pull(kdr_handle *handle, size_t page
  */
 kdr_status KDR_CALL kdr_place_return(kdr_handle *handle, kdr_place *place) KDR_NONNULL;
 
+/**
+ * Creates a cache of the handle's pool. It keeps no place yet.
+ *
+ * @param handle a handle of the pool, which may hold a place. Nothing else may use it meanwhile.
+ *               The cache doesn't need it later.
+ * @param room   how many places the cache may keep. It takes 8 bytes for each. With 0 each return
+ *               goes to the pool.
+ * @param page   the page at which its first pull from the pool looks first, as
+ *               kdr_pool_pull_near() has it. If that is full, it goes on at another one, apart from
+ *               others.
+ * @param out    an empty cache, which becomes the new one.
+ * @return KDR_DONE; KDR_NO_POOL if handle is empty; KDR_NO_MEMORY; KDR_HAS_POOL if out isn't empty.
+ *         After a failure out is as before, and nothing is kept.
+ */
+KDR_NODISCARD kdr_status KDR_CALL kdr_cache_new(const kdr_handle *handle, size_t room, size_t page,
+                                               kdr_cache *out) KDR_NONNULL;
+
+/**
+ * Pulls the place that the cache got last, or a free place of the pool if it keeps none.
+ *
+ * @param place an empty place, which becomes the one that was pulled. After a failure it is as
+ *              before.
+ * @return KDR_DONE; KDR_ALL_IN_USE as kdr_pool_pull(), where places that other caches keep are in
+ *         use; KDR_HOLDS_ONE if the place isn't empty; KDR_NO_POOL if the cache is empty.
+ */
+KDR_NODISCARD kdr_status KDR_CALL kdr_cache_pull(kdr_cache *cache, kdr_place *place) KDR_NONNULL;
+
+/**
+ * Returns a place to the cache, if it has room, or else to the pool. The place is empty from then
+ * on.
+ *
+ * @param place a place of the cache's pool, which a handle or a cache of it pulled.
+ * @return KDR_DONE; KDR_HOLDS_NONE if the place is empty; KDR_OTHER_POOL; KDR_NO_SUCH_PLACE;
+ *         KDR_NO_POOL if the cache is empty. After a failure the place is as before.
+ */
+kdr_status KDR_CALL kdr_cache_return(kdr_cache *cache, kdr_place *place) KDR_NONNULL;
+
+/**
+ * Returns all places that the cache keeps to the pool. Others may pull them.
+ *
+ * @return KDR_DONE; KDR_NO_POOL if the cache is empty.
+ */
+kdr_status KDR_CALL kdr_cache_flush(kdr_cache *cache) KDR_NONNULL;
+
+/**
+ * Closes the cache, which is empty from then on. The places that it keeps are returned to the pool.
+ *
+ * @return KDR_DONE; KDR_NO_POOL if the cache is empty.
+ */
+kdr_status KDR_CALL kdr_cache_drop(kdr_cache *cache) KDR_NONNULL;
+
 /** Returns how many places the handle's pool has, or 0 if the handle is empty. */
 size_t KDR_CALL kdr_pool_items(const kdr_handle *handle) KDR_NONNULL;
 
 /**
  * Closes the handle, which is empty from then on. A place that it holds is returned. The pool ends
- * with its last handle.
+ * with its last handle or cache.
  *
  * @return KDR_DONE; KDR_NO_POOL if the handle is empty.
  */
@@ -271,9 +336,15 @@ kdr_status KDR_CALL kdr_pool_drop(kdr_handle *handle) KDR_NONNULL;
 kdr_status KDR_CALL kdr_debug_place_return(kdr_handle *handle, kdr_place *place, const char *file,
                                            int line) KDR_NONNULL;
 
+/** Returns a place as kdr_cache_return() does. KDR_DEBUG puts it in the place of that call. */
+kdr_status KDR_CALL kdr_debug_cache_return(kdr_cache *cache, kdr_place *place, const char *file,
+                                           int line) KDR_NONNULL;
+
 #ifdef KDR_DEBUG
 #define kdr_place_return(handle, place) \
     kdr_debug_place_return((handle), (place), __FILE__, __LINE__)
+#define kdr_cache_return(cache, place) \
+    kdr_debug_cache_return((cache), (place), __FILE__, __LINE__)
 #endif
 
 #ifdef __cplusplus

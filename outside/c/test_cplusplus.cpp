@@ -35,6 +35,12 @@ int main() {
         }
         items.at(place.at())++;
     }
+    kdr_cache cache = KDR_CACHE_EMPTY;
+    kdr_place kept = KDR_PLACE_EMPTY;
+    if (kdr_cache_new(&handle, 1, 0, &cache) != KDR_DONE || kdr_cache_pull(&cache, &kept) != KDR_DONE ||
+        kdr_cache_return(&cache, &kept) != KDR_DONE || kdr_cache_drop(&cache) != KDR_DONE) {
+        return 1;
+    }
     bool counted = items[0] + items[1] == 3;
     bool ended = kdr_pool_drop(&handle) == KDR_DONE;
     std::puts(counted && ended ? "C++ pulled and returned three times" : "C++ lost a place");

@@ -1,5 +1,5 @@
-/* What KDR_DEBUG makes of kdr_place_return(). Its answers are the same. Where a place is free that is returned, the program says of
-   which thread's return, and aborts. Other ends of the program, and handlers of its own, are left as they are. */
+/* What KDR_DEBUG makes of kdr_place_return() and kdr_cache_return(). Their answers are the same. Where a place is free that is returned,
+   or the cache keeps it, the program says of which thread's return, and aborts. Other ends of the program, and handlers of its own, are left as they are. */
 #define KDR_DEBUG
 #include "kundratu_pool.h"
 #include <pthread.h>
@@ -83,6 +83,35 @@ static void return_a_copy(void) {
     kdr_place_return(&first, &one);
     kdr_place_return(&first, &other);
     kdr_place_return(&first, &copy); /* line 105 */
+}
+
+/* By a cache that keeps the place, and by one that has no room. */
+static void keep_a_copy(void) {
+    kdr_handle first = new_pool();
+    kdr_cache cache = KDR_CACHE_EMPTY;
+    check(kdr_cache_new(&first, 3, 0, &cache) == KDR_DONE, "no cache");
+    kdr_place one = pull(&first), other = pull(&first), copy = one;
+    kdr_cache_return(&cache, &one);
+    kdr_cache_return(&cache, &other);
+    kdr_cache_return(&cache, &copy); /* line 116 */
+}
+
+static void return_a_copy_past_a_cache(void) {
+    kdr_handle first = new_pool();
+    kdr_cache cache = KDR_CACHE_EMPTY;
+    check(kdr_cache_new(&first, 0, 0, &cache) == KDR_DONE, "no cache");
+    kdr_place one = pull(&first), copy = one;
+    kdr_cache_return(&cache, &one);
+    kdr_cache_return(&cache, &copy); /* line 125 */
+}
+
+static void name_the_cache_return(void) {
+    char said[1024];
+    doing = "a copied place and a cache";
+    check(is_ended_by(end_of(keep_a_copy, said, sizeof said), SIGABRT), "no abort");
+    check(strcmp(said, "short.c:116: kdr_cache_return: place 0 is kept: it was copied, and returned before\n") == 0, said);
+    check(is_ended_by(end_of(return_a_copy_past_a_cache, said, sizeof said), SIGABRT), "no abort without room");
+    check(strcmp(said, "short.c:125: kdr_cache_return: place 0 is free: it was copied, and returned before\n") == 0, said);
 }
 
 static void name_the_return(void) {
@@ -233,15 +262,44 @@ static void compare_answers(void) {
     check(kdr_pool_drop(&first) == KDR_DONE && kdr_pool_drop(&another) == KDR_DONE, "a handle isn't dropped");
 }
 
+/* Each answer of a return to a cache. It may have a place of another pool under the number of one that it keeps. */
+static void keep_alike(kdr_cache *cache, kdr_place place, kdr_status wanted) {
+    kdr_place other = place;
+    kdr_status plain = (kdr_cache_return)(cache, &place);
+    kdr_status debug = kdr_cache_return(cache, &other);
+    check(plain == wanted && debug == wanted, kdr_status_name(debug));
+    check(kdr_place_number(&place) == kdr_place_number(&other), "it changes the place otherwise");
+}
+
+static void compare_cache_answers(void) {
+    doing = "an answer of a cache";
+    kdr_handle first = new_pool(), another = new_pool();
+    kdr_cache cache = KDR_CACHE_EMPTY, none = KDR_CACHE_EMPTY;
+    check(kdr_cache_new(&first, 2, 0, &cache) == KDR_DONE, "no cache");
+    kdr_place held = pull(&first), kept = pull(&first), of_other = pull(&another), empty = KDR_PLACE_EMPTY, past = held;
+    past.after = ITEMS + 1;
+    of_other.after = kept.after;
+    check(kdr_cache_return(&cache, &kept) == KDR_DONE && kdr_place_number(&kept) == KDR_NO_PLACE, "a place isn't kept");
+    keep_alike(&cache, empty, KDR_HOLDS_NONE);
+    keep_alike(&none, empty, KDR_NO_POOL);
+    keep_alike(&none, held, KDR_NO_POOL);
+    keep_alike(&cache, of_other, KDR_OTHER_POOL);
+    keep_alike(&cache, past, KDR_NO_SUCH_PLACE);
+    check(kdr_cache_return(&cache, &held) == KDR_DONE && kdr_place_number(&held) == KDR_NO_PLACE, "a place isn't kept");
+    check(kdr_cache_drop(&cache) == KDR_DONE && kdr_pool_drop(&first) == KDR_DONE && kdr_pool_drop(&another) == KDR_DONE, "no end");
+}
+
 /* The children come first: in each of them a return is the program's first one. */
 int main(void) {
     name_the_return();
+    name_the_cache_return();
     cut_the_message();
     name_the_threads_return();
     name_a_return_beside_the_first();
     leave_other_ends();
     leave_own_handlers();
     compare_answers();
+    compare_cache_answers();
     puts("each return that went wrong was named");
     return 0;
 }

@@ -171,6 +171,49 @@ static void take_no_bytes(void) {
     check(held == 0, "a block of no bytes was left behind");
 }
 
+/* A cache asks for memory when it is made, and then for none, however many places come back. It keeps its pool. */
+static void take_none_by_caches(void) {
+    enum { ROOM = 64 };
+    kdr_handle one = KDR_HANDLE_EMPTY;
+    kdr_cache cache = KDR_CACHE_EMPTY;
+    kdr_place all[ITEMS], more = KDR_PLACE_EMPTY;
+    check(kdr_pool_new(ITEMS, &one) == KDR_DONE, "no pool");
+    long before = held, requests;
+    for (requests = 0;; requests++) {
+        asked = 0;
+        refuse_at = requests;
+        kdr_status status = kdr_cache_new(&one, ROOM, 0, &cache);
+        refuse_at = -1;
+        if (status == KDR_DONE) {
+            break;
+        }
+        check(status == KDR_NO_MEMORY, "a refused cache wasn't answered by its name");
+        check(cache.at == NULL && held == before, "a refused cache left something behind");
+    }
+    check(requests > 0, "a cache takes no memory");
+    kdr_cache great = KDR_CACHE_EMPTY;
+    check(kdr_cache_new(&one, SIZE_MAX, 0, &great) == KDR_NO_MEMORY, "a cache of too much room was made");
+    asked = 0;
+    for (int turn = 0; turn < 3; turn++) {
+        for (size_t at = 0; at < ITEMS; at++) {
+            all[at] = KDR_PLACE_EMPTY;
+            check(kdr_cache_pull(&cache, &all[at]) == KDR_DONE, "no place of a cache");
+        }
+        check(kdr_cache_pull(&cache, &more) == KDR_ALL_IN_USE, "a place of a cache too many");
+        for (size_t at = 0; at < ITEMS; at++) {
+            check(kdr_cache_return(&cache, &all[at]) == KDR_DONE, "no return to a cache");
+        }
+        check(kdr_cache_return(&cache, &more) == KDR_HOLDS_NONE, "a second return to a cache");
+        check(turn != 1 || kdr_cache_flush(&cache) == KDR_DONE, "no flush");
+    }
+    size_t least = given_back;
+    check(kdr_pool_drop(&one) == KDR_DONE, "no end");
+    check(held > 0, "a pool ended before its last cache");
+    check(kdr_cache_drop(&cache) == KDR_DONE && held == 0, "a cache left memory behind");
+    check(given_back - least >= ROOM * 8, "a cache had no memory for its room");
+    check(asked == 0, "a call by a cache asked for memory");
+}
+
 int main(void) {
     long requests = requests_of_new();
     refuse_new(requests);
@@ -179,6 +222,7 @@ int main(void) {
     take_none_between();
     take_none_by_places();
     take_no_bytes();
+    take_none_by_caches();
     printf("%d faults\n", faults);
     return faults != 0;
 }

@@ -1,7 +1,7 @@
 /* Mistakes that C programs make with places, and how each is answered: places of zeroed memory,
    places whose bytes were made up, places of another pool and of one that has ended, and a place
-   that was copied and is returned while it is free. A place that was refused is as before, and the
-   pools hand out each place once afterwards. */
+   that was copied and is returned while it is free. The same by a cache. A place that was refused is
+   as before, and the pools hand out each place once afterwards. */
 #include "kundratu_pool.h"
 #include <signal.h>
 #include <stdbool.h>
@@ -50,6 +50,19 @@ static void refuse(kdr_handle *handle, kdr_place place, kdr_status wanted) {
     check(is_same(&place, &before), "a return that was refused changed the place");
 }
 
+/* Nor does a cache of that pool keep it. */
+static void refuse_by_cache(const kdr_handle *handle, kdr_place place, kdr_status wanted) {
+    kdr_cache cache = KDR_CACHE_EMPTY;
+    kdr_place before = place, more = KDR_PLACE_EMPTY;
+    check(kdr_cache_new(handle, 1, 0, &cache) == KDR_DONE, "no cache");
+    check(kdr_cache_return(&cache, &place) == wanted && is_same(&place, &before), "a cache takes a place that it shouldn't");
+    if (kdr_cache_pull(&cache, &more) == KDR_DONE) {
+        check(!is_same(&more, &before), "a cache keeps a place that it refused");
+        check(kdr_cache_return(&cache, &more) == KDR_DONE, "a place wasn't returned to a cache");
+    }
+    check(kdr_cache_drop(&cache) == KDR_DONE, "a cache wasn't dropped");
+}
+
 /* The pool has as many free places as it should, each one of its own, and no further one. Then it is
    dropped. */
 static void end_pool(kdr_handle *handle, size_t free) {
@@ -96,9 +109,11 @@ static void make_places_up(void) {
     for (size_t at = 0; at < sizeof numbers / sizeof numbers[0]; at++) {
         kdr_place made_up = {numbers[at] + 1, held.pool};
         refuse(&first, made_up, KDR_NO_SUCH_PLACE);
+        refuse_by_cache(&first, made_up, KDR_NO_SUCH_PLACE);
         check(kdr_place_pull(&first, 0, &made_up) == KDR_HOLDS_ONE, "a place was pulled that isn't empty");
         made_up.pool = 0;
         refuse(&first, made_up, KDR_OTHER_POOL);
+        refuse_by_cache(&first, made_up, KDR_OTHER_POOL);
     }
     kdr_place guessed = {kdr_place_number(&held) + 1, 0};
     refuse(&first, guessed, KDR_OTHER_POOL);
@@ -114,6 +129,8 @@ static void take_another_pool(void) {
     refuse(&other, held, KDR_OTHER_POOL);
     refuse(&few, held, KDR_OTHER_POOL);
     refuse(&first, of_other, KDR_OTHER_POOL);
+    refuse_by_cache(&other, held, KDR_OTHER_POOL);
+    refuse_by_cache(&few, held, KDR_OTHER_POOL);
     check(kdr_place_return(&other, &of_other) == KDR_DONE, "a place wasn't returned to its own pool");
     refuse(&few, held, KDR_OTHER_POOL);
     check(kdr_place_return(&further, &held) == KDR_DONE, "a place wasn't returned by a further handle");
@@ -122,20 +139,33 @@ static void take_another_pool(void) {
     end_pool(&first, ITEMS - 1);
     kdr_handle later = new_pool(ITEMS);
     refuse(&later, held, KDR_OTHER_POOL);
+    refuse_by_cache(&later, held, KDR_OTHER_POOL);
     end_pool(&later, ITEMS);
     end_pool(&other, ITEMS);
     end_pool(&few, FEW);
 }
 
-/* Returns a place twice by a copy. It doesn't come back. */
-static void return_a_copy(bool debug) {
+/* By which calls a place is returned twice, the second time by a copy. It doesn't come back. */
+static const char *const WAYS[] = {"plain", "debug", "full_cache", "flush", "drop", "cache_debug"};
+enum way { PLAIN, DEBUG, FULL_CACHE, FLUSH, DROP, CACHE_DEBUG, WAYS_COUNT };
+
+static void return_a_copy(enum way way) {
     kdr_handle first = new_pool(ITEMS);
+    kdr_cache cache = KDR_CACHE_EMPTY;
     kdr_place held = pull(&first), copy = held;
-    check(kdr_place_return(&first, &held) == KDR_DONE, "a place wasn't returned");
-    if (debug) {
-        (void)kdr_debug_place_return(&first, &copy, "file.c", 12);
+    check(kdr_cache_new(&first, way == FULL_CACHE ? 0 : 2, 0, &cache) == KDR_DONE, "no cache");
+    kdr_status status = way == CACHE_DEBUG ? kdr_cache_return(&cache, &held) : kdr_place_return(&first, &held);
+    check(status == KDR_DONE, "a place wasn't returned");
+    switch (way) {
+    case PLAIN: (void)kdr_place_return(&first, &copy); break;
+    case DEBUG: (void)kdr_debug_place_return(&first, &copy, "file.c", 12); break;
+    case CACHE_DEBUG: (void)kdr_debug_cache_return(&cache, &copy, "file.c", 34); break;
+    default: (void)kdr_cache_return(&cache, &copy);
+    }
+    if (way == FLUSH) {
+        (void)kdr_cache_flush(&cache);
     } else {
-        (void)kdr_place_return(&first, &copy);
+        (void)kdr_cache_drop(&cache);
     }
 }
 
@@ -146,10 +176,10 @@ enum end { BY_REFUSAL, BY_ABORT, OTHERWISE };
 static const char *program;
 
 /* Each has a file of its own: what looks into a program that ended may still have that open. */
-static enum end end_of_a_copy(bool debug, char *said, size_t room) {
-    const char *word = debug ? "debug" : "plain", *name = debug ? "said_debug.txt" : "said_plain.txt";
-    char command[1024];
-    snprintf(command, sizeof command, "\"%s\" %s 2>%s", program, word, name);
+static enum end end_of_a_copy(enum way way, char *said, size_t room) {
+    char command[1024], name[64];
+    snprintf(name, sizeof name, "said_%s.txt", WAYS[way]);
+    snprintf(command, sizeof command, "\"%s\" %s 2>%s", program, WAYS[way], name);
     fflush(stdout);
     unsigned status = (unsigned)system(command);
     FILE *file = fopen(name, "r");
@@ -160,7 +190,7 @@ static enum end end_of_a_copy(bool debug, char *said, size_t room) {
     return status == 0xC000001D ? BY_REFUSAL : status == 3 ? BY_ABORT : OTHERWISE;
 }
 #else
-static enum end end_of_a_copy(bool debug, char *said, size_t room) {
+static enum end end_of_a_copy(enum way way, char *said, size_t room) {
     int ends[2];
     check(pipe(ends) == 0, "no pipe");
     fflush(stdout);
@@ -170,7 +200,7 @@ static enum end end_of_a_copy(bool debug, char *said, size_t room) {
         dup2(ends[1], STDERR_FILENO);
         signal(SIGILL, SIG_DFL);
         signal(SIGTRAP, SIG_DFL);
-        return_a_copy(debug);
+        return_a_copy(way);
         _exit(0);
     }
     int status = 0;
@@ -187,9 +217,30 @@ static enum end end_of_a_copy(bool debug, char *said, size_t room) {
 /* It ends the program. With the header's debug build it says where. */
 static void copy_a_place(void) {
     char said[256];
-    check(end_of_a_copy(false, said, sizeof said) == BY_REFUSAL, "a copied place was returned twice");
-    check(end_of_a_copy(true, said, sizeof said) == BY_ABORT, "a copied place was returned twice, and nothing aborted");
-    check(strstr(said, "file.c:12: kdr_place_return: place ") && strstr(said, "is free"), "nothing was said of a copied place");
+    for (enum way way = PLAIN; way < WAYS_COUNT; way++) {
+        bool is_debug = way == DEBUG || way == CACHE_DEBUG;
+        enum end end = end_of_a_copy(way, said, sizeof said);
+        if (end != (is_debug ? BY_ABORT : BY_REFUSAL)) {
+            printf("a copied place was returned twice, by the way %s\n", WAYS[way]);
+            exit(1);
+        }
+        const char *call = way == DEBUG ? "file.c:12: kdr_place_return: place " : "file.c:34: kdr_cache_return: place ";
+        const char *found = way == DEBUG ? "is free" : "is kept";
+        check(!is_debug || (strstr(said, call) && strstr(said, found)), "nothing was said of a copied place");
+    }
+}
+
+/* A cache with room doesn't see the copy of a place that it keeps: two pulls take one place. */
+static void keep_a_copy(void) {
+    kdr_handle first = new_pool(FEW);
+    kdr_cache cache = KDR_CACHE_EMPTY;
+    check(kdr_cache_new(&first, 2, 0, &cache) == KDR_DONE, "no cache");
+    kdr_place one = pull(&first), copy = one, same = one;
+    check(kdr_cache_return(&cache, &one) == KDR_DONE && kdr_cache_return(&cache, &copy) == KDR_DONE, "a copy isn't kept");
+    check(kdr_cache_pull(&cache, &one) == KDR_DONE && kdr_cache_pull(&cache, &copy) == KDR_DONE, "what is kept wasn't pulled");
+    check(is_same(&one, &same) && is_same(&copy, &same), "another place was pulled than the one that is kept");
+    check(kdr_place_return(&first, &one) == KDR_DONE && kdr_cache_drop(&cache) == KDR_DONE, "no end");
+    end_pool(&first, FEW);
 }
 
 /* The version is one, in numbers and as a string, in the header and in the library. */
@@ -202,7 +253,11 @@ static void compare_versions(void) {
 
 int main(int count, char **words) {
     if (count > 1) {
-        return_a_copy(strcmp(words[1], "debug") == 0);
+        for (enum way way = PLAIN; way < WAYS_COUNT; way++) {
+            if (strcmp(words[1], WAYS[way]) == 0) {
+                return_a_copy(way);
+            }
+        }
         return 0;
     }
 #if defined(_WIN32)
@@ -215,6 +270,7 @@ int main(int count, char **words) {
     use_zeroed_memory();
     take_another_pool();
     copy_a_place();
+    keep_a_copy();
     puts("each mistake was answered, and each place is in use once");
     return 0;
 }

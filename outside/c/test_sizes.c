@@ -1,6 +1,6 @@
 /* Pools of many sizes, each with a handle for each place and one more. Each place is handed out once, and no further one; all are
-   returned in another order, and all are handed out again; a place that is free alone is found; and a pull near a page takes the
-   place that is free there, however great the number is that names the page. */
+   returned in another order, and all are handed out again; a place that is free alone is found; a pull near a page takes the place that
+   is free there, however great the number is that names the page; and a cache keeps half of the places. */
 #include "kundratu_pool.h"
 #include <stdbool.h>
 #include <stdio.h>
@@ -154,6 +154,34 @@ static void drop_all(void) {
     memset(holder, 0, sizeof holder);
 }
 
+/* A cache with room for half of the places. It pulls each once, and keeps what it has room for, which no other finds until its flush. */
+static void keep_half(size_t wanted) {
+    static kdr_place held[MOST_ITEMS];
+    static bool taken[MOST_ITEMS];
+    kdr_handle first = KDR_HANDLE_EMPTY;
+    kdr_cache cache = KDR_CACHE_EMPTY, other = KDR_CACHE_EMPTY, *users[] = {&cache, &other, &other};
+    size_t room = wanted / 2, counts[] = {wanted, wanted - room, room};
+    check(kdr_pool_new(wanted, &first) == KDR_DONE, "it wasn't made");
+    check(kdr_cache_new(&first, room, 1, &cache) == KDR_DONE && kdr_cache_new(&first, 0, 0, &other) == KDR_DONE, "no cache");
+    for (size_t turn = 0; turn < 3; turn++) {
+        kdr_place more = KDR_PLACE_EMPTY, *own = turn == 2 ? held + counts[1] : held;
+        memset(taken, 0, turn == 2 ? 0 : sizeof taken);
+        for (size_t at = 0; at < counts[turn]; at++) {
+            own[at] = KDR_PLACE_EMPTY;
+            check(kdr_cache_pull(users[turn], &own[at]) == KDR_DONE, "a pull by a cache was refused while a place was free");
+            size_t number = kdr_place_number(&own[at]);
+            check(number < wanted && !taken[number], "a cache pulled a place that is in use");
+            taken[number] = true;
+        }
+        check(kdr_cache_pull(users[turn], &more) == KDR_ALL_IN_USE, "a pull by a cache wasn't refused while all were in use");
+        for (size_t at = 0; turn == 0 && at < wanted; at++) {
+            check(kdr_cache_return(&cache, &held[stepped(at, wanted)]) == KDR_DONE, "a place wasn't returned to a cache");
+        }
+        check(turn != 1 || kdr_cache_flush(&cache) == KDR_DONE, "a cache wasn't flushed");
+    }
+    check(kdr_cache_drop(&cache) == KDR_DONE && kdr_cache_drop(&other) == KDR_DONE && kdr_pool_drop(&first) == KDR_DONE, "no end");
+}
+
 int main(void) {
     size_t places = 0;
     size_t count = sizeof sizes / sizeof sizes[0];
@@ -167,6 +195,7 @@ int main(void) {
         pull_near_each_page(true);
         pull_from_the_page_behind();
         drop_all();
+        keep_half(sizes[at]);
         places += sizes[at];
     }
     printf("%zu pools handed out each of their %zu places once, again, alone, and near its page\n", count, places);

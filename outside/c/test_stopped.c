@@ -13,8 +13,8 @@ enum { ITEMS = 40, TURNS = 200, ADDED = 100, FREE_AT_MOST = 4 };
 enum call { PULL, RETURN, TURN, TURNS_OF_IT };
 
 /* The last two are controls: pools of this file, one by loads and stores, and one under a lock. */
-static const char *const KINDS[] = {"handle", "handle_last", "place", "place_last", "race", "lock"};
-enum { KINDS_COUNT = 6, PLACE = 2, RACE = 4, LOCK = 5 };
+static const char *const KINDS[] = {"handle", "handle_last", "place", "place_last", "cache", "cache_last", "race", "lock"};
+enum { KINDS_COUNT = 8, PLACE = 2, CACHE = 4, RACE = 6, LOCK = 7 };
 static const char *const CALLS[] = {"pull", "return", "turn", "turns"};
 static const size_t FREE[] = {33, 5, 20, 39};
 
@@ -27,6 +27,8 @@ struct item {
 struct thread {
     kdr_handle handle;
     kdr_place place;
+    /* It has no room, so each call makes its steps on the pool. What is kept makes none. */
+    kdr_cache cache;
     /* What it holds of a control, which has no library. */
     size_t of_control;
     enum call call;
@@ -69,7 +71,8 @@ static inline bool pull(struct thread *thread, size_t *number) {
         return is_pulled;
     }
     if (kind < PLACE) return kdr_pool_pull(&thread->handle, number) == KDR_DONE;
-    if (kdr_place_pull(&thread->handle, 0, &thread->place) != KDR_DONE) return false;
+    kdr_status status = kind >= CACHE ? kdr_cache_pull(&thread->cache, &thread->place) : kdr_place_pull(&thread->handle, 0, &thread->place);
+    if (status != KDR_DONE) return false;
     *number = kdr_place_number(&thread->place);
     return true;
 }
@@ -78,6 +81,8 @@ static inline void give_back(struct thread *thread) {
     if (kind >= RACE) {
         if (thread->of_control != KDR_NO_PLACE) give_back_to_control(thread->of_control);
         thread->of_control = KDR_NO_PLACE;
+    } else if (kind >= CACHE) {
+        kdr_cache_return(&thread->cache, &thread->place);
     } else if (kind >= PLACE) {
         kdr_place_return(&thread->handle, &thread->place);
     } else {
@@ -143,28 +148,41 @@ static void hold_but(kdr_handle *handle, size_t free_ones, kdr_place places[ITEM
             if (kdr_place_number(&places[at]) == FREE[of]) kdr_place_return(handle, &places[at]);
 }
 
+/* A handle of the pool and a cache for a thread, which holds nothing. */
+static void open_for(struct thread *thread, kdr_handle *of) {
+    thread->handle = KDR_HANDLE_EMPTY;
+    thread->place = KDR_PLACE_EMPTY;
+    thread->cache = KDR_CACHE_EMPTY;
+    thread->of_control = KDR_NO_PLACE;
+    check(kdr_pool_share(of, &thread->handle) == KDR_DONE, "no handle");
+    check(kdr_cache_new(of, 0, 0, &thread->cache) == KDR_DONE, "no cache");
+}
+
+static void close_for(struct thread *thread) {
+    kdr_cache_drop(&thread->cache);
+    kdr_pool_drop(&thread->handle);
+}
+
 static void tell_rest(kdr_handle *handle, size_t free_ones) {
     struct thread rest[FREE_AT_MOST];
     for (size_t at = 0; at < free_ones; at++) {
         size_t number = 0;
-        rest[at] = (struct thread){.handle = KDR_HANDLE_EMPTY, .place = KDR_PLACE_EMPTY, .of_control = KDR_NO_PLACE};
-        check(kdr_pool_share(handle, &rest[at].handle) == KDR_DONE, "no handle");
+        open_for(&rest[at], handle);
         if (pull(&rest[at], &number)) printf(" %zu:%zu", number, values[number]);
     }
-    for (size_t at = 0; at < free_ones; at++) kdr_pool_drop(&rest[at].handle);
+    for (size_t at = 0; at < free_ones; at++) close_for(&rest[at]);
     puts("");
     fflush(stdout);
 }
 
 static void make_round(size_t free_ones, enum call first_call, enum call second_call) {
-    struct thread first = {.handle = KDR_HANDLE_EMPTY, .place = KDR_PLACE_EMPTY, .of_control = KDR_NO_PLACE, .call = first_call}, second = first;
+    struct thread first = {.call = first_call}, second = {.call = second_call};
     kdr_handle main_handle = KDR_HANDLE_EMPTY;
     kdr_place held[ITEMS];
     pthread_t other;
-    second.call = second_call;
     check(kdr_pool_new(ITEMS, &main_handle) == KDR_DONE, "no pool");
-    check(kdr_pool_share(&main_handle, &first.handle) == KDR_DONE, "no handle");
-    check(kdr_pool_share(&main_handle, &second.handle) == KDR_DONE, "no handle");
+    open_for(&first, &main_handle);
+    open_for(&second, &main_handle);
     hold_but(&main_handle, free_ones, held);
     word = 0;
     for (size_t at = 0; at < free_ones; at++) word |= 1ul << FREE[at];
@@ -180,8 +198,8 @@ static void make_round(size_t free_ones, enum call first_call, enum call second_
         if (thread->call == PULL || thread->call == TURNS_OF_IT) give_back(thread);
     }
     tell_rest(&main_handle, free_ones);
-    kdr_pool_drop(&first.handle);
-    kdr_pool_drop(&second.handle);
+    close_for(&first);
+    close_for(&second);
     kdr_pool_drop(&main_handle);
 }
 

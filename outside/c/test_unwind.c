@@ -79,6 +79,7 @@ static void check(kdr_status status, kdr_status wanted) {
 
 static __attribute__((noinline)) void make_calls(int sent_around) {
     kdr_handle one = KDR_HANDLE_EMPTY, other = KDR_HANDLE_EMPTY;
+    kdr_cache cache = KDR_CACHE_EMPTY;
     kdr_place places[ITEMS], more = KDR_PLACE_EMPTY;
     size_t number;
     raise(sent_around);
@@ -94,6 +95,16 @@ static __attribute__((noinline)) void make_calls(int sent_around) {
     }
     check(kdr_place_pull(&other, 0, &more), KDR_ALL_IN_USE);
     check(kdr_place_return(&other, &places[0]), KDR_DONE);
+    check(kdr_cache_new(&other, 1, 0, &cache), KDR_DONE);
+    check(kdr_cache_pull(&cache, &places[0]), KDR_DONE);
+    check(kdr_cache_pull(&cache, &more), KDR_ALL_IN_USE);
+    check(kdr_cache_return(&cache, &places[0]), KDR_DONE);
+    check(kdr_cache_pull(&cache, &places[0]), KDR_DONE);
+    check(kdr_cache_return(&cache, &places[0]), KDR_DONE);
+    check(kdr_cache_return(&cache, &places[1]), KDR_DONE);
+    check(kdr_cache_flush(&cache), KDR_DONE);
+    check(kdr_debug_cache_return(&cache, &places[2], __FILE__, __LINE__), KDR_DONE);
+    check(kdr_cache_drop(&cache), KDR_DONE);
     check(kdr_pool_drop(&other), KDR_DONE);
     raise(sent_around);
 }
