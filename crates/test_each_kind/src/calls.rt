@@ -1,20 +1,11 @@
 //! Each call that `docs/PROMISES.md` says takes no memory, made once. `ci/no_memory_calls` finds
 //! one of that list that no test makes. `ci/refuse_memory` runs these as it runs `no_memory`.
 use crate::assert_equal::assert_equal;
-use crate::calls_of_parts::new_seven;
 use crate::no_memory::is_ready;
 use lockfree_object_pool::clean::AnyValue;
 use lockfree_object_pool::closures::{Copied, Keep};
-use lockfree_object_pool::free_list::FreeList;
-use lockfree_object_pool::made_or_reset::MadeOrReset;
 use lockfree_object_pool::page::{PageId, PullPass};
-use lockfree_object_pool::stack_object_pool::StackObjectPool;
-use lockfree_object_pool::{
-    FixedObjectPool, LazyObjectPool, LinearObjectPool, MutexObjectPool, NoneObjectPool,
-    SpinLockObjectPool,
-};
-use std::alloc::Global;
-use std::process::Abort;
+use lockfree_object_pool::{FixedObjectPool, LazyObjectPool, LinearObjectPool};
 use std::sync::{Arc, Wait};
 use std::time::{Clock, Duration};
 
@@ -170,58 +161,4 @@ fn calls_of_a_linear_pool_ask_for_no_memory(rt: HostRuntime) {
         (pool.limit(), pull_linear(&pool), pull_linear_owned(&pool)),
         (None, Some((0, 0)), Some((0, 0))),
     );
-}
-
-type Stack<F> = StackObjectPool<u64, Zeros, Keep, AnyValue, F>;
-
-type Stacked = MadeOrReset<Zeros, Keep, AnyValue>;
-
-/// Calls of a mutex pool or a spin lock pool, which keeps three values first. A value that was
-/// taken out of it for good, and how many it keeps before all are dropped and then.
-fn use_stack<F: FreeList<u64, Stacked>, W: Abort + Wait + Copy>(
-    rt: &W,
-    pool: &Arc<Stack<F>>,
-) -> (u64, usize, usize) {
-    let detached = pool.pull(rt).expect(rt, "a value is kept").detach();
-    drop(pool.pull_owned(rt).expect(rt, "a value is kept"));
-    let kept = pool.kept(rt);
-    pool.clear(rt);
-    (detached, kept, pool.kept(rt))
-}
-
-/// Where a stack pool can be opened and filled, no call of it asks for memory.
-fn stack_asks_for_no_memory<F: FreeList<u64, Stacked>, W: Abort + Print + Wait + Copy>(
-    rt: &W,
-    alloc: Global,
-    pool: Stack<F>,
-) {
-    let Ok(pool) = Arc::new(alloc, pool) else {
-        return;
-    };
-    if pool.fill(rt, 3).is_err() {
-        return;
-    }
-    is_ready(rt);
-    assert_equal(rt, use_stack(rt, &pool), (0, 2, 0));
-}
-
-#[test]
-fn calls_of_a_mutex_pool_ask_for_no_memory(rt: HostRuntime) {
-    let pool = MutexObjectPool::new(rt.alloc(), zeros(), Keep);
-    stack_asks_for_no_memory(&rt, rt.alloc(), pool);
-}
-
-#[test]
-fn calls_of_a_spin_lock_pool_ask_for_no_memory(rt: HostRuntime) {
-    if let Ok(pool) = SpinLockObjectPool::new(rt.alloc(), zeros(), Keep) {
-        stack_asks_for_no_memory(&rt, rt.alloc(), pool);
-    }
-}
-
-#[test]
-fn calls_of_a_none_pool_ask_for_no_memory(rt: HostRuntime) {
-    is_ready(&rt);
-    let pool = NoneObjectPool::new(new_seven);
-    let item = pool.pull().expect(&rt, "an item is made");
-    assert_equal(&rt, *item, 7);
 }

@@ -8,8 +8,6 @@ use lockfree_object_pool::linear_page::Chain;
 use lockfree_object_pool::page::{
     Allocated, Page, PullPass, has_bit, take_least, with_bit, without_bit,
 };
-use lockfree_object_pool::spin_lock::SpinLock;
-use lockfree_object_pool::stack::{Room, Stack};
 use object_pool_cores::buffers::{self, BufferPool};
 use object_pool_cores::interleave::{Event, Prepared, Seen, World};
 use object_pool_cores::sequential::{
@@ -25,7 +23,7 @@ fn zeros() -> Zeros {
     Copied::new(0)
 }
 
-/// Makes the values of pages, of chains and of the pool that keeps nothing.
+/// Makes the values of pages and of chains.
 pub(crate) fn new_seven() -> Option<u64> {
     Some(7)
 }
@@ -104,30 +102,6 @@ fn calls_of_words_ask_for_no_memory(rt: HostRuntime) {
         ),
         (Some((4, 1)), 7, 4, true),
     );
-}
-
-#[test]
-fn calls_of_a_stack_ask_for_no_memory(rt: HostRuntime) {
-    let Ok(room) = Room::new(rt.alloc()) else {
-        return;
-    };
-    is_ready(&rt);
-    let mut stack: Stack<u64, AnyValue> = Stack::new();
-    stack.put(room, 5);
-    let kept = stack.kept();
-    let (taken, _room) = stack.take().expect(&rt, "a value is kept");
-    assert_equal(&rt, (kept, taken), (1, 5));
-}
-
-#[test]
-fn calls_of_a_spin_lock_ask_for_no_memory(rt: HostRuntime) {
-    let Ok(lock) = SpinLock::new(rt.alloc(), 5u64) else {
-        return;
-    };
-    is_ready(&rt);
-    let first = *lock.lock(&rt);
-    let second = *lock.try_lock().expect(&rt, "the lock is free");
-    assert_equal(&rt, (first, second), (5, 5));
 }
 
 #[test]

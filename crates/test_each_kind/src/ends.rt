@@ -4,7 +4,7 @@ ghost use Rattle.std.specs.Prelude.{◌≤◌};
 use crate::assert_equal::assert_equal;
 use crate::cores::{Buffers, LinearPlayers, StackPlayers};
 use crate::parts::{PARTS, Parts};
-use crate::pools::{FixedPools, LazyPools, LinearPools, MutexPools, SpinLockPools};
+use crate::pools::{FixedPools, LazyPools, LinearPools};
 use crate::worlds::Worlds;
 use lockfree_object_pool::PullError;
 use std::alloc::Global;
@@ -139,16 +139,6 @@ fn what_lazy_pools_own_is_dropped(rt: HostRuntime) {
 }
 
 #[test]
-fn what_mutex_pools_own_is_dropped(rt: HostRuntime) {
-    ends::<MutexPools, _>(&rt, rt.alloc());
-}
-
-#[test]
-fn what_spin_lock_pools_own_is_dropped(rt: HostRuntime) {
-    ends::<SpinLockPools, _>(&rt, rt.alloc());
-}
-
-#[test]
 fn what_players_of_linear_cores_own_is_dropped(rt: HostRuntime) {
     ends::<LinearPlayers, _>(&rt, rt.alloc());
 }
@@ -189,8 +179,6 @@ fn what_each_owns_is_dropped_where_memory_was_refused(rt: HostRuntime) {
     ends_without_memory::<LinearPools, _>(&rt, rt.alloc(), &tally);
     ends_without_memory::<FixedPools, _>(&rt, rt.alloc(), &tally);
     ends_without_memory::<LazyPools, _>(&rt, rt.alloc(), &tally);
-    ends_without_memory::<MutexPools, _>(&rt, rt.alloc(), &tally);
-    ends_without_memory::<SpinLockPools, _>(&rt, rt.alloc(), &tally);
     ends_without_memory::<LinearPlayers, _>(&rt, rt.alloc(), &tally);
     ends_without_memory::<StackPlayers, _>(&rt, rt.alloc(), &tally);
     ends_without_memory::<Buffers, _>(&rt, rt.alloc(), &tally);

@@ -1,10 +1,10 @@
-//! Values that are dropped by a pool that keeps nothing or by a reset, and lazy pools that make and
-//! discard items beside other threads.
+//! Values that are dropped by a reset, and lazy pools that make and discard items beside other
+//! threads.
 use crate::assert_equal::assert_equal;
 use lockfree_object_pool::clean::AnyValue;
 use lockfree_object_pool::closures::{Init, Keep};
 use lockfree_object_pool::recycling::{Pool, Recyclable};
-use lockfree_object_pool::{LazyObjectPool, NoneObjectPool, PullError};
+use lockfree_object_pool::{LazyObjectPool, PullError};
 use std::alloc::Global;
 use std::rt::Clock;
 use std::sync::atomic::AtomicUsize;
@@ -15,14 +15,6 @@ use std::thread::Threads;
 use std::time::{Duration, Instant};
 use test_values::tallied::{Tallied, TalliedValues};
 use test_values::tally::{Tally, new_tally};
-
-#[test]
-fn an_item_of_a_pool_that_keeps_nothing_is_dropped(rt: HostRuntime) {
-    let tally = new_tally(rt.alloc()).expect(&rt, "memory is left");
-    let pool = NoneObjectPool::new(|| Tallied::new(&tally));
-    drop(pool.pull().expect(&rt, "an item is made"));
-    assert_equal(&rt, tally.now(), (1, 1));
-}
 
 /// A recyclable value that can hold tallied ones.
 trait Holds: Recyclable {

@@ -3,10 +3,8 @@
 //!
 //! `ends`: what each owns is dropped once, its items, its `init` and its `reset`, whichever call of
 //! `init` refuses and whichever request for memory is refused. `sizes`: the same at each size of
-//! one list. `let_go`: what a reset or a pool
-//! that keeps nothing drops. `no_memory`, `calls`: calls that ask for
-//! none. `texts`: how each type is shown, compared and
-//! hashed.
+//! one list. `let_go`: what a reset drops. `no_memory`, `calls`: calls that ask for none. `texts`:
+//! how each type is shown, compared and hashed.
 #![tactic(auto)]
 
 #[cfg(test)]

@@ -5,19 +5,15 @@
 //! the test.
 use crate::assert_equal::assert_equal;
 use crate::parts::{OwningInit, OwningReset, Parts};
-use crate::pools::{Fixed, Lazy, Linear, Pulls, Stack, Stacked, held};
+use crate::pools::{Fixed, Lazy, Linear, Pulls, held};
 use lockfree_object_pool::clean::AnyValue;
-use lockfree_object_pool::free_list::FreeList;
 use lockfree_object_pool::linear_page::Chain;
 use lockfree_object_pool::page::{Page, PullPass};
-use lockfree_object_pool::{
-    FixedObjectPool, LazyObjectPool, LinearObjectPool, MutexObjectPool, PullError,
-    SpinLockObjectPool,
-};
+use lockfree_object_pool::{FixedObjectPool, LazyObjectPool, LinearObjectPool, PullError};
 use object_pool_cores::sequential::{NoneCore, Player, StackCore};
 use std::alloc::Global;
 use std::process::Abort;
-use std::sync::{Arc, Wait};
+use std::sync::Arc;
 use test_values::counted::NEVER;
 use test_values::tallied::Tallied;
 use test_values::tally::new_tally;
@@ -105,40 +101,6 @@ fn turns_of_a_lazy_pool_ask_for_no_memory(rt: HostRuntime) {
     }
 }
 
-/// Where a stack pool can be opened and filled, its turns ask for no memory. Then it keeps what was
-/// held, until all is dropped.
-fn turns_of_a_stack_ask_for_none<F: FreeList<Tallied, Stacked>, W: Abort + Print + Wait + Copy>(
-    rt: &W,
-    alloc: Global,
-    pool: Stack<F>,
-) {
-    let Ok(pool) = Arc::new(alloc, pool) else {
-        return;
-    };
-    if take_turns(rt, alloc, &pool, &&*pool).is_ok() {
-        let kept = pool.kept(rt);
-        pool.clear(rt);
-        assert_equal(rt, (kept, pool.kept(rt)), (2 * ITEMS, 0));
-    }
-}
-
-#[test]
-fn turns_of_a_mutex_pool_ask_for_no_memory(rt: HostRuntime) {
-    if let Ok(parts) = parts(rt.alloc()) {
-        let pool = MutexObjectPool::new(rt.alloc(), parts.init, parts.reset);
-        turns_of_a_stack_ask_for_none(&rt, rt.alloc(), pool);
-    }
-}
-
-#[test]
-fn turns_of_a_spin_lock_pool_ask_for_no_memory(rt: HostRuntime) {
-    if let Ok(parts) = parts(rt.alloc()) {
-        if let Ok(pool) = SpinLockObjectPool::new(rt.alloc(), parts.init, parts.reset) {
-            turns_of_a_stack_ask_for_none(&rt, rt.alloc(), pool);
-        }
-    }
-}
-
 type TalliedPage = Page<Tallied, AnyValue>;
 
 type TalliedChain = Chain<Tallied, AnyValue>;
@@ -185,13 +147,6 @@ fn slots_of_pages_ask_for_no_memory(rt: HostRuntime) {
 fn open_all(rt: &(impl Abort + Print), alloc: Global) -> Result<(), PullError> {
     let tally = new_tally(alloc)?;
     is_ready(rt);
-    let parts = Parts::new(alloc, &tally, NEVER)?;
-    let pool: MutexObjectPool<Tallied, OwningInit, OwningReset> = MutexObjectPool::new(
-        alloc,
-        parts.init,
-        parts.reset,
-    );
-    drop(pool);
     let parts = Parts::new(alloc, &tally, NEVER)?;
     let core: StackCore<Tallied, OwningInit, OwningReset, AnyValue> = StackCore::new(
         alloc,

@@ -2,14 +2,9 @@
 use crate::ends::{Kind, Use, at_least_one};
 use crate::parts::{OwningInit, OwningReset, Parts};
 use lockfree_object_pool::clean::AnyValue;
-use lockfree_object_pool::free_list::FreeList;
-use lockfree_object_pool::made_or_reset::MadeOrReset;
-use lockfree_object_pool::stack_object_pool::StackObjectPool;
-use lockfree_object_pool::stack_reusable::StackReusable;
 use lockfree_object_pool::{
     FixedObjectPool, FixedOwnedReusable, FixedReusable, LazyObjectPool, LazyOwnedReusable,
-    LazyReusable, LinearObjectPool, LinearOwnedReusable, LinearReusable, MutexObjectPool,
-    PullError, SpinLockObjectPool,
+    LazyReusable, LinearObjectPool, LinearOwnedReusable, LinearReusable, PullError,
 };
 use std::alloc::Global;
 use std::sync::{Arc, Wait};
@@ -73,26 +68,6 @@ impl<W> Pulls<W> for Arc<Lazy> {
 
     fn pull_one(&self, _rt: &W) -> Result<Self::Item, PullError> {
         self.pull_owned()
-    }
-}
-
-pub type Stack<F> = StackObjectPool<Tallied, OwningInit, OwningReset, AnyValue, F>;
-
-pub type Stacked = MadeOrReset<OwningInit, OwningReset, AnyValue>;
-
-impl<F: FreeList<Tallied, Stacked>, W: Wait + Copy> Pulls<W> for &Stack<F> {
-    type Item = StackReusable<Tallied, Self, W>;
-
-    fn pull_one(&self, rt: &W) -> Result<Self::Item, PullError> {
-        self.pull(rt)
-    }
-}
-
-impl<F: FreeList<Tallied, Stacked>, W: Wait + Copy> Pulls<W> for Arc<Stack<F>> {
-    type Item = StackReusable<Tallied, Self, W>;
-
-    fn pull_one(&self, rt: &W) -> Result<Self::Item, PullError> {
-        self.pull_owned(rt)
     }
 }
 
@@ -193,45 +168,4 @@ impl Kind for LazyPools {
         }
         hold_twice(rt, alloc, &&pool, how.items)
     }
-}
-
-pub struct MutexPools;
-
-impl Kind for MutexPools {
-    fn use_up<W: Wait + Copy>(
-        rt: &W,
-        alloc: Global,
-        parts: Parts,
-        how: Use,
-    ) -> Result<(), PullError> {
-        let pool = MutexObjectPool::new(alloc, parts.init, parts.reset);
-        stack_ends(rt, alloc, pool, how)
-    }
-}
-
-pub struct SpinLockPools;
-
-impl Kind for SpinLockPools {
-    fn use_up<W: Wait + Copy>(
-        rt: &W,
-        alloc: Global,
-        parts: Parts,
-        how: Use,
-    ) -> Result<(), PullError> {
-        let pool = SpinLockObjectPool::new(alloc, parts.init, parts.reset)?;
-        stack_ends(rt, alloc, pool, how)
-    }
-}
-
-/// A stack pool is used and ends.
-fn stack_ends<F: FreeList<Tallied, Stacked>, W: Wait + Copy>(
-    rt: &W,
-    alloc: Global,
-    pool: Stack<F>,
-    how: Use,
-) -> Result<(), PullError> {
-    if how.is_owned {
-        return ends_owned(rt, alloc, pool, how.items);
-    }
-    hold_twice(rt, alloc, &&pool, how.items)
 }

@@ -1,29 +1,22 @@
-//! Each kind at each size of one list: what is held together, kept, attached or made with room.
+//! Each kind at each size of one list: what is held together, or made with room.
 ghost use Rattle.std.specs.Prelude.{◌≤◌};
 
 use crate::assert_equal::assert_equal;
 use crate::cores::{Buffers, LinearPlayers, StackPlayers};
 use crate::ends::{Kind, Use, ends_after_use};
-use crate::parts::{PARTS, Parts};
-use crate::pools::{FixedPools, LazyPools, LinearPools, MutexPools, SpinLockPools, Stack, Stacked};
+use crate::pools::{FixedPools, LazyPools, LinearPools};
 use lockfree_object_pool::closures::{Clear, Init, Keep, Reset, WithCapacity};
-use lockfree_object_pool::free_list::FreeList;
-use lockfree_object_pool::stack_reusable::{SharedStackPool, StackReusable};
-use lockfree_object_pool::{FixedObjectPool, MutexObjectPool, PullError, SpinLockObjectPool};
+use lockfree_object_pool::{FixedObjectPool, PullError};
 use std::alloc::Global;
 use std::mem;
 use std::process::Abort;
 use std::sync::{Arc, Wait};
-use test_values::counted::NEVER;
 use test_values::sizes::SIZES;
 use test_values::tallied::{Tallied, TalliedValues};
 use test_values::tally::{Tally, new_tally};
 
-/// The greatest number of values that a test has time to keep: a tried test has a minute.
-const MOST_KEPT: usize = 131_072;
-
-/// The greatest number of values that a test has time to attach or to put into a vector.
-const MOST_ATTACHED: usize = 65_537;
+/// The greatest number of values that a test has time to put into a vector.
+const MOST_IN_VECTOR: usize = 65_537;
 
 /// The greatest number of items that a test has time to hold. `test_sizes`, a built program, has
 /// pools and cores of 300,000 items and more, and fixed pools of each size are opened in
@@ -50,8 +43,6 @@ fn items_of_each_size_of_pool_come_back(rt: HostRuntime) {
     holds::<LinearPools, _>(&rt, rt.alloc());
     holds::<FixedPools, _>(&rt, rt.alloc());
     holds::<LazyPools, _>(&rt, rt.alloc());
-    holds::<MutexPools, _>(&rt, rt.alloc());
-    holds::<SpinLockPools, _>(&rt, rt.alloc());
 }
 
 #[test]
@@ -113,84 +104,13 @@ fn each_of_65_536_items_of_a_fixed_pool_comes_once_a_round(rt: HostRuntime) {
     come_once_a_round(&rt, rt.alloc(), 65_536);
 }
 
-/// So many values are made at once and counted, and dropped at once, of each size up to the
-/// greatest that are kept.
-fn keeps<F: FreeList<Tallied, Stacked>, W: Abort + Wait + Copy>(
-    rt: &W,
-    pool: &Stack<F>,
-    tally: &Tally,
-) {
-    for items in SIZES {
-        if items <= MOST_KEPT {
-            let filled = (pool.fill(rt, items), pool.kept(rt));
-            pool.clear(rt);
-            assert_equal(
-                rt,
-                (filled, pool.kept(rt), tally.living()),
-                ((Ok(()), items), 0, PARTS),
-            );
-        }
-    }
-}
-
-/// So many values are attached to a pool and own it together.
-fn attach<P: Drop, W: Wait + Copy>(
-    rt: &W,
-    alloc: Global,
-    pool: &Arc<P>,
-    tally: &Arc<Tally>,
-    count: usize,
-) -> Option<()>
-where
-    Arc<P>: SharedStackPool<Tallied>,
-{
-    let mut held = Vec::with_capacity(alloc, count).ok()?;
-    for _ in 0..count {
-        let owner = Arc::try_clone(pool).ok()?;
-        let item = StackReusable::new(rt, owner, Tallied::new(tally)?).ok()?;
-        held.push(item).ok()?;
-    }
-    Some(())
-}
-
-/// So many values are attached, and each is kept then.
-fn keeps_attached<F: FreeList<Tallied, Stacked>, W: Abort + Wait + Copy>(
-    rt: &W,
-    alloc: Global,
-    pool: Stack<F>,
-    tally: &Arc<Tally>,
-) {
-    keeps(rt, &pool, tally);
-    let pool = Arc::new(alloc, pool).expect(rt, "memory is left");
-    for items in SIZES {
-        if items <= MOST_ATTACHED {
-            let attached = attach(rt, alloc, &pool, tally, items);
-            assert_equal(rt, (attached, pool.kept(rt)), (Some(()), items));
-            pool.clear(rt);
-        }
-    }
-}
-
-#[test]
-fn stacks_keep_values_of_each_number(rt: HostRuntime) {
-    let alloc = rt.alloc();
-    let tally = new_tally(alloc).expect(&rt, "memory is left");
-    let parts = Parts::new(alloc, &tally, NEVER).expect(&rt, "memory is left");
-    let pool = MutexObjectPool::new(alloc, parts.init, parts.reset);
-    keeps_attached(&rt, alloc, pool, &tally);
-    let parts = Parts::new(alloc, &tally, NEVER).expect(&rt, "memory is left");
-    let pool = SpinLockObjectPool::new(alloc, parts.init, parts.reset);
-    keeps_attached(&rt, alloc, pool.expect(&rt, "a pool is made"), &tally);
-    assert_equal(&rt, tally.living(), 0);
-}
-
 /// A vector with room for so many items, with as many tallied values as a test has time for.
 fn filled(alloc: Global, tally: &Arc<Tally>, count: usize) -> Option<Vec<Tallied>> {
     let mut values: Vec<Tallied> = WithCapacity::new(alloc, count).make()?;
     if values.capacity() != count {
         return None;
     }
-    for _ in 0..count.min(MOST_ATTACHED) {
+    for _ in 0..count.min(MOST_IN_VECTOR) {
         values.push(Tallied::new(tally)?).ok()?;
     }
     Some(values)
@@ -202,7 +122,7 @@ fn vectors_of_each_length_are_made_and_cleared(rt: HostRuntime) {
     let tally = new_tally(rt.alloc()).expect(&rt, "memory is left");
     for count in SIZES {
         let mut values = filled(rt.alloc(), &tally, count).expect(&rt, "room for each");
-        assert_equal(&rt, tally.living(), count.min(MOST_ATTACHED));
+        assert_equal(&rt, tally.living(), count.min(MOST_IN_VECTOR));
         Clear.reset(&mut values);
         assert_equal(&rt, (tally.living(), values.capacity()), (0, count));
     }

@@ -1,11 +1,7 @@
-//! What is written once for each kind of pool, borrowed or owned: how an item is pulled, and what
-//! is done with it.
+//! What is written once for borrowed items and owned ones: how an item is pulled, and what is done
+//! with it.
 use lockfree_object_pool::clean::{AnyValue, Clean};
 use lockfree_object_pool::closures::{Init, Reset};
-use lockfree_object_pool::free_list::FreeList;
-use lockfree_object_pool::made_or_reset::MadeOrReset;
-use lockfree_object_pool::stack_object_pool::StackObjectPool;
-use lockfree_object_pool::stack_reusable::StackReusable;
 use lockfree_object_pool::{LinearObjectPool, LinearOwnedReusable, LinearReusable, PullError};
 use std::alloc::Global;
 use std::ops::DerefMut;
@@ -35,41 +31,6 @@ impl<I: Init<u32, K>, R: Reset<u32, K>, K: Clean<u32>, W: Wait + Copy> Pulls<W>
 
     fn item(&self, _rt: &W) -> Result<LinearOwnedReusable<u32, I, R, K>, PullError> {
         self.pull_owned()
-    }
-}
-
-impl<
-    'p,
-    I: Init<u32, K>,
-    R: Reset<u32, K>,
-    K: Clean<u32>,
-    F: FreeList<u32, MadeOrReset<I, R, K>>,
-    W: Wait + Copy,
-> Pulls<W> for &'p StackObjectPool<u32, I, R, K, F> {
-    type Item = StackReusable<u32, &'p StackObjectPool<u32, I, R, K, F>, W>;
-
-    fn item(
-        &self,
-        rt: &W,
-    ) -> Result<StackReusable<u32, &'p StackObjectPool<u32, I, R, K, F>, W>, PullError> {
-        self.pull(rt)
-    }
-}
-
-impl<
-    I: Init<u32, K>,
-    R: Reset<u32, K>,
-    K: Clean<u32>,
-    F: FreeList<u32, MadeOrReset<I, R, K>>,
-    W: Wait + Copy,
-> Pulls<W> for Arc<StackObjectPool<u32, I, R, K, F>> {
-    type Item = StackReusable<u32, Arc<StackObjectPool<u32, I, R, K, F>>, W>;
-
-    fn item(
-        &self,
-        rt: &W,
-    ) -> Result<StackReusable<u32, Arc<StackObjectPool<u32, I, R, K, F>>, W>, PullError> {
-        self.pull_owned(rt)
     }
 }
 

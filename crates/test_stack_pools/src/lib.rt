@@ -3,14 +3,30 @@
 #![tactic(auto)]
 
 #[cfg(test)]
-mod assert_equal;
+mod callers;
 #[cfg(test)]
-mod none_object_pool;
+mod no_memory;
+#[cfg(test)]
+mod none_pool;
 #[cfg(test)]
 mod pull_error;
+#[cfg(test)]
+mod sends;
 #[cfg(test)]
 mod spin_lock;
 #[cfg(test)]
 mod stack;
 #[cfg(test)]
-mod stack_object_pool;
+mod stack_game;
+#[cfg(test)]
+mod stack_locks;
+#[cfg(test)]
+mod stack_model;
+#[cfg(test)]
+mod stack_player;
+#[cfg(test)]
+mod stack_rows;
+#[cfg(test)]
+mod stack_threads;
+#[cfg(test)]
+mod values;

@@ -1,7 +1,6 @@
 //! The words and the numbers of the refusals, and what becomes of a value that memory was refused
 //! for.
-use crate::assert_equal::assert_equal;
-use lockfree_object_pool::PullError;
+use pool_parts::PullError;
 use std::alloc::AllocFailed;
 use std::collections::HashSet;
 use test_values::tally::Tally;
@@ -12,12 +11,11 @@ fn each_refusal_has_its_own_words(rt: HostRuntime) {
     let told = format!(in rt.alloc();
         "{memory}; {init}; {limit}; {memory:?}, {init:?}, {limit:?}"
     ).expect(&rt, "memory is left");
-    assert_equal(
-        &rt,
+    assert_eq!(rt;
         told.as_str(),
         "out of memory; init gave no item; the pool is at its limit; Memory, Init, Limit",
     );
-    assert_equal(&rt, (memory as u8, init as u8, limit as u8), (1, 2, 3));
+    assert_eq!(rt; (memory as u8, init as u8, limit as u8), (1, 2, 3));
 }
 
 #[test]
@@ -26,8 +24,7 @@ fn a_value_that_memory_was_refused_for_is_dropped(rt: HostRuntime) {
     let refused = AllocFailed {
         value: Some(counts.make()),
     };
-    assert_equal(
-        &rt,
+    assert_eq!(rt;
         (PullError::from(refused), counts.now()),
         (PullError::Memory, (1, 1)),
     );

@@ -1,17 +1,11 @@
 //! The spin lock in use: what its guards show, who has it, and what it drops.
-use crate::assert_equal::assert_equal;
-use lockfree_object_pool::spin_lock::SpinLock;
+use crate::values::MOST_TURNS;
+use stack_pools::spin_lock::SpinLock;
 use std::sync::atomic::AtomicU64;
 use std::sync::atomic::Ordering::SeqCst;
 use std::sync::{Arc, Wait};
 use std::{mem, thread};
 use test_values::tally::Tally;
-
-mod callers;
-mod sends;
-
-/// A test that still waits after so many turns fails.
-const MOST_TURNS: u32 = 10_000_000;
 
 /// A sum that threads add to, and how many of them are done.
 #[derive(Drop)]
@@ -49,10 +43,10 @@ fn two_threads_leave_two_thousand(rt: HostRuntime) {
         }
         thread::yield_now();
     }
-    assert_equal(&rt, sum.done.load(SeqCst), 2);
+    assert_eq!(rt; sum.done.load(SeqCst), 2);
     first.join(&rt);
     second.join(&rt);
-    assert_equal(&rt, *sum.lock.lock(&rt), 2_000);
+    assert_eq!(rt; *sum.lock.lock(&rt), 2_000);
 }
 
 #[test]
@@ -78,14 +72,7 @@ fn drops_each_value_once(rt: HostRuntime) {
     drop(guard);
     let returned = counts.drops();
     drop(lock);
-    assert_equal(&rt, (written, returned, counts.drops()), (1, 1, 2));
-}
-
-#[test]
-fn a_guard_shows_its_value(rt: HostRuntime) {
-    let lock = SpinLock::new(rt.alloc(), 5u32).expect(&rt, "memory is left");
-    let shown = format!(in rt.alloc(); "{:?}", lock.lock(&rt)).expect(&rt, "memory is left");
-    assert!(rt; shown.as_str() == "5");
+    assert_eq!(rt; (written, returned, counts.drops()), (1, 1, 2));
 }
 
 #[test]
@@ -94,9 +81,9 @@ fn shows_what_was_written_last(rt: HostRuntime) {
     let mut guard = lock.lock(&rt);
     let made = *guard;
     *guard = 8;
-    assert_equal(&rt, (made, *guard, lock.try_lock().is_none()), (7, 8, true));
+    assert_eq!(rt; (made, *guard, lock.try_lock().is_none()), (7, 8, true));
     drop(guard);
-    assert_equal(&rt, lock.try_lock().map(|guard| *guard), Some(8));
+    assert_eq!(rt; lock.try_lock().map(|guard| *guard), Some(8));
 }
 
 #[test]
