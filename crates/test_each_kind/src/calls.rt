@@ -5,7 +5,7 @@ use crate::no_memory::is_ready;
 use lockfree_object_pool::clean::AnyValue;
 use lockfree_object_pool::closures::{Copied, Keep};
 use lockfree_object_pool::page::{PageId, PullPass};
-use lockfree_object_pool::{FixedObjectPool, LazyObjectPool, LinearObjectPool};
+use lockfree_object_pool::{LazyObjectPool, LinearObjectPool};
 use std::sync::{Arc, Wait};
 use std::time::{Clock, Duration};
 
@@ -14,59 +14,6 @@ type Zeros = Copied<u64, AnyValue>;
 
 fn zeros() -> Zeros {
     Copied::new(0)
-}
-
-type Fixed = FixedObjectPool<u64, Zeros, Keep>;
-
-/// Pulls of a fixed pool.
-fn pull_fixed(pool: &Fixed) -> Option<(usize, usize, PageId)> {
-    let pass = PullPass::new();
-    drop(pool.pull().ok()?);
-    drop(pool.pull_near(1).ok()?);
-    drop(pool.near().pull().ok()?);
-    drop(pool.try_pull(&pass).ok()?);
-    let (holding, value) = pool.pull_apart(1).ok()?;
-    pool.give(holding, value);
-    let item = pool.pull().ok()?;
-    Some((item.number(), item.page_number(), item.page_id()))
-}
-
-/// A pull of a fixed pool by a note.
-fn pull_fixed_from(pool: &Fixed) -> Option<u64> {
-    let pass = PullPass::new();
-    let mut item = pool.pull().ok()?;
-    let mut note = pool.note();
-    pool.tell(&mut note, item.witness());
-    drop(item.give_back());
-    let item = pool.try_pull_from(&pass, note).ok()?;
-    Some(*item)
-}
-
-/// A pull of a fixed pool by an owner.
-fn pull_fixed_by_owner(owner: Arc<Fixed>) -> Option<usize> {
-    drop(owner.pull_owned().ok()?);
-    let note = owner.note();
-    let item = owner.pull_by_owner(0, note).ok()?;
-    let items = item.owner().items();
-    drop(item.give_back_with_owner());
-    Some(items)
-}
-
-#[test]
-fn calls_of_a_fixed_pool_ask_for_no_memory(rt: HostRuntime) {
-    let Ok(pool) = Fixed::new(rt.alloc(), zeros(), Keep, 40) else {
-        return;
-    };
-    let Ok(pool) = Arc::new(rt.alloc(), pool) else {
-        return;
-    };
-    is_ready(&rt);
-    assert_equal(
-        &rt,
-        (pool.items(), pull_fixed(&pool), pull_fixed_from(&pool)),
-        (40, Some((0, 0, 0)), Some(0)),
-    );
-    assert_equal(&rt, pull_fixed_by_owner(pool), Some(40));
 }
 
 type Lazy = LazyObjectPool<u64, Zeros, Keep>;

@@ -5,11 +5,11 @@
 //! the test.
 use crate::assert_equal::assert_equal;
 use crate::parts::{OwningInit, OwningReset, Parts};
-use crate::pools::{Fixed, Lazy, Linear, Pulls, held};
+use crate::pools::{Lazy, Linear, Pulls, held};
 use lockfree_object_pool::clean::AnyValue;
 use lockfree_object_pool::linear_page::Chain;
-use lockfree_object_pool::page::{Page, PullPass};
-use lockfree_object_pool::{FixedObjectPool, LazyObjectPool, LinearObjectPool, PullError};
+use lockfree_object_pool::page::Page;
+use lockfree_object_pool::{LazyObjectPool, LinearObjectPool, PullError};
 use object_pool_cores::sequential::{NoneCore, Player, StackCore};
 use std::alloc::Global;
 use std::process::Abort;
@@ -65,12 +65,6 @@ fn linear_pool(alloc: Global) -> Result<Arc<Linear>, PullError> {
     Ok(Arc::new(alloc, pool)?)
 }
 
-fn fixed_pool(alloc: Global) -> Result<Arc<Fixed>, PullError> {
-    let parts = parts(alloc)?;
-    let pool = FixedObjectPool::new(alloc, parts.init, parts.reset, 2 * ITEMS)?;
-    Ok(Arc::new(alloc, pool)?)
-}
-
 fn lazy_pool(alloc: Global) -> Result<Arc<Lazy>, PullError> {
     let parts = parts(alloc)?;
     let pool = LazyObjectPool::new(alloc, parts.init, parts.reset, 2 * ITEMS)?;
@@ -81,16 +75,6 @@ fn lazy_pool(alloc: Global) -> Result<Arc<Lazy>, PullError> {
 fn turns_of_a_linear_pool_ask_for_no_memory(rt: HostRuntime) {
     if let Ok(pool) = linear_pool(rt.alloc()) {
         let _refused = take_turns(&rt, rt.alloc(), &pool, &&*pool);
-    }
-}
-
-#[test]
-fn turns_of_a_fixed_pool_ask_for_no_memory(rt: HostRuntime) {
-    if let Ok(pool) = fixed_pool(rt.alloc()) {
-        if take_turns(&rt, rt.alloc(), &pool, &&*pool).is_ok() {
-            let pass = PullPass::new();
-            assert!(rt; pool.pull_near(1).is_ok() && pool.try_pull(&pass).is_ok());
-        }
     }
 }
 

@@ -3,8 +3,8 @@ use crate::ends::{Kind, Use, at_least_one};
 use crate::parts::{OwningInit, OwningReset, Parts};
 use lockfree_object_pool::clean::AnyValue;
 use lockfree_object_pool::{
-    FixedObjectPool, FixedOwnedReusable, FixedReusable, LazyObjectPool, LazyOwnedReusable,
-    LazyReusable, LinearObjectPool, LinearOwnedReusable, LinearReusable, PullError,
+    LazyObjectPool, LazyOwnedReusable, LazyReusable, LinearObjectPool, LinearOwnedReusable,
+    LinearReusable, PullError,
 };
 use std::alloc::Global;
 use std::sync::{Arc, Wait};
@@ -29,24 +29,6 @@ impl<'p, W> Pulls<W> for &'p Linear {
 
 impl<W> Pulls<W> for Arc<Linear> {
     type Item = LinearOwnedReusable<Tallied, OwningInit, OwningReset, AnyValue>;
-
-    fn pull_one(&self, _rt: &W) -> Result<Self::Item, PullError> {
-        self.pull_owned()
-    }
-}
-
-pub type Fixed = FixedObjectPool<Tallied, OwningInit, OwningReset, AnyValue>;
-
-impl<'p, W> Pulls<W> for &'p Fixed {
-    type Item = FixedReusable<'p, Tallied, OwningInit, OwningReset, AnyValue>;
-
-    fn pull_one(&self, _rt: &W) -> Result<Self::Item, PullError> {
-        self.pull()
-    }
-}
-
-impl<W> Pulls<W> for Arc<Fixed> {
-    type Item = FixedOwnedReusable<Tallied, OwningInit, OwningReset, AnyValue>;
 
     fn pull_one(&self, _rt: &W) -> Result<Self::Item, PullError> {
         self.pull_owned()
@@ -119,28 +101,6 @@ impl Kind for LinearPools {
         how: Use,
     ) -> Result<(), PullError> {
         let pool: Linear = LinearObjectPool::new(alloc, parts.init, parts.reset)?;
-        if how.is_owned {
-            return ends_owned(rt, alloc, pool, how.items);
-        }
-        hold_twice(rt, alloc, &&pool, how.items)
-    }
-}
-
-pub struct FixedPools;
-
-impl Kind for FixedPools {
-    fn use_up<W: Wait + Copy>(
-        rt: &W,
-        alloc: Global,
-        parts: Parts,
-        how: Use,
-    ) -> Result<(), PullError> {
-        let pool: Fixed = FixedObjectPool::new(
-            alloc,
-            parts.init,
-            parts.reset,
-            at_least_one(how.items),
-        )?;
         if how.is_owned {
             return ends_owned(rt, alloc, pool, how.items);
         }

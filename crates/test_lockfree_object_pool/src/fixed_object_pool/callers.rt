@@ -8,13 +8,12 @@ ghost use Rattle.pool_parts.specs.declared.page.history.Operation.TheVariants.{R
 ghost use Rattle.pool_parts.specs.declared.pull_error.PullError.TheVariants.{Limit};
 ghost use Rattle.test_lockfree_object_pool.specs.Returned.{EndsWithReturn, EndsWithReturnOf, WasReturnedBefore, WasUsedSince};
 
-use super::numbers::{NumberItem, NumberPool, hold, opened, opened_shared};
+use super::numbers::{NumberItem, NumberPool, hold, opened};
 use crate::assert_equal::assert_equal;
 use lockfree_object_pool::PullError;
 use lockfree_object_pool::fixed_object_pool::{BusySeen, PoolNote};
-use lockfree_object_pool::fixed_reusable::{FixedReusableOf, SharedFixedPool};
 use lockfree_object_pool::page::PullPass;
-use std::sync::Arc;
+use std::mem::size_of;
 use std::thread;
 use std::thread::Threads;
 
@@ -213,25 +212,8 @@ fn work_meets_no_refusal_but_the_limit(rt: HostRuntime) {
     assert_equal(&rt, work(&pool, 0), Ok(0));
 }
 
-/// Two holders tell what they know, and the first returns its item with an 11. The numbers of both
-/// items.
-fn told_by_two<P: SharedFixedPool<usize>, Q: SharedFixedPool<usize>>(
-    mut first: FixedReusableOf<usize, P>,
-    second: &mut FixedReusableOf<usize, Q>,
-) -> (usize, usize) {
-    let numbers = (first.number(), second.number());
-    drop(first.witness());
-    drop(second.witness());
-    *first = 11;
-    drop(first.give_back());
-    numbers
-}
-
+/// What a pulled value knows of the history costs nothing: it has a borrow, a number and the value.
 #[test]
-fn a_holder_tells_what_it_knows(rt: HostRuntime) {
-    let pool = opened_shared(&rt, rt.alloc(), 33);
-    let owned = pool.pull_owned().expect(&rt, "an item is free");
-    let mut item = pool.pull().expect(&rt, "an item is free");
-    assert_equal(&rt, told_by_two(owned, &mut item), (0, 1));
-    assert_equal(&rt, *pool.pull().expect(&rt, "an item is free"), 11);
+fn a_history_takes_no_bytes(rt: HostRuntime) {
+    assert_equal(&rt, size_of::<NumberItem<'static>>(), 24);
 }

@@ -7,9 +7,8 @@ use lockfree_object_pool::clean::AnyValue;
 use lockfree_object_pool::closures::{Init, Keep};
 use lockfree_object_pool::fixed_object_pool::Near;
 use lockfree_object_pool::fixed_reusable::{FixedReusableOf, SharedFixedPool};
-use lockfree_object_pool::{FixedObjectPool, FixedOwnedReusable, FixedReusable, PullError};
+use lockfree_object_pool::{FixedObjectPool, FixedReusable, PullError};
 use std::alloc::Global;
-use std::mem;
 use std::process::Abort;
 use std::sync::Arc;
 use std::sync::atomic::AtomicUsize;
@@ -36,28 +35,12 @@ pub type NumberItem<'p> = FixedReusable<'p, usize, Numbers, Keep, AnyValue>;
 /// A place at which pulls of numbers begin.
 pub type NumberNear<'p> = Near<'p, usize, Numbers, Keep, AnyValue>;
 
-/// A pulled number that keeps an owner of its pool.
-pub type NumberOwnedItem = FixedOwnedReusable<usize, Numbers, Keep, AnyValue>;
-
 /// Creates a pool of so many numbers, of which item `i` is `i`. The test ends if memory is refused.
 pub fn opened(rt: &impl Abort, alloc: Global, items: usize) -> NumberPool
     requires { 1 ≤ items }
     ensures { (fixed_view result).items ≡ items }
 {
-    counted_pool(rt, alloc, &count_of_calls(rt, alloc), items)
-}
-
-/// Creates such a pool, whose calls of `init` are counted.
-pub fn counted_pool(
-    rt: &impl Abort,
-    alloc: Global,
-    calls: &Arc<AtomicUsize>,
-    items: usize,
-) -> NumberPool
-    requires { 1 ≤ items }
-    ensures { (fixed_view result).items ≡ items }
-{
-    let calls = Arc::try_clone(calls).expect(rt, "memory is left");
+    let calls = count_of_calls(rt, alloc);
     FixedObjectPool::new(alloc, Numbers { calls }, Keep, items).expect(rt, "a pool is made")
 }
 
@@ -94,11 +77,4 @@ pub fn hold<P: Pulls>(
         held.push(item).expect(rt, "memory is left");
     }
     held
-}
-
-/// Takes so many items out for good.
-pub fn keep_out<P: Pulls>(rt: &impl Abort, pool: P, items: usize) {
-    for _ in 0..items {
-        mem::forget(pool.pull_one().expect(rt, "an item is free"));
-    }
 }
