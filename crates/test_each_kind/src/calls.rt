@@ -2,10 +2,10 @@
 //! one of that list that no test makes. `ci/refuse_memory` runs these as it runs `no_memory`.
 use crate::assert_equal::assert_equal;
 use crate::no_memory::is_ready;
+use lockfree_object_pool::LazyObjectPool;
 use lockfree_object_pool::clean::AnyValue;
 use lockfree_object_pool::closures::{Copied, Keep};
 use lockfree_object_pool::page::{PageId, PullPass};
-use lockfree_object_pool::{LazyObjectPool, LinearObjectPool};
 use std::sync::{Arc, Wait};
 use std::time::{Clock, Duration};
 
@@ -66,46 +66,4 @@ fn calls_of_a_lazy_pool_ask_for_no_memory(rt: HostRuntime) {
         (Some(()), Some(0), Some((0, 0, 0))),
     );
     assert_equal(&rt, (pool.items(), pool.made(), pool.in_use()), (40, 2, 0));
-}
-
-type Linear = LinearObjectPool<u64, Zeros, Keep>;
-
-/// Pulls of a linear pool.
-fn pull_linear(pool: &Linear) -> Option<(usize, PageId)> {
-    let pass = PullPass::new();
-    drop(pool.pull().ok()?);
-    let mut item = pool.try_pull(&pass).ok()?;
-    let mut note = item.note();
-    let witness = item.witness();
-    item.tell(&mut note, witness);
-    drop(item.give_back());
-    let item = pool.pull().ok()?;
-    Some((item.page_number(), item.page_id()))
-}
-
-/// An owned item of a linear pool.
-fn pull_linear_owned(pool: &Arc<Linear>) -> Option<(usize, PageId)> {
-    let mut item = pool.pull_owned().ok()?;
-    let mut note = item.note();
-    let witness = item.witness();
-    item.tell(&mut note, witness);
-    let place = (item.page_number(), item.page_id());
-    drop(item.give_back());
-    Some(place)
-}
-
-#[test]
-fn calls_of_a_linear_pool_ask_for_no_memory(rt: HostRuntime) {
-    let Ok(pool) = Linear::new(rt.alloc(), zeros(), Keep) else {
-        return;
-    };
-    let Ok(pool) = Arc::new(rt.alloc(), pool) else {
-        return;
-    };
-    is_ready(&rt);
-    assert_equal(
-        &rt,
-        (pool.limit(), pull_linear(&pool), pull_linear_owned(&pool)),
-        (None, Some((0, 0)), Some((0, 0))),
-    );
 }

@@ -4,7 +4,7 @@ ghost use Rattle.std.specs.Prelude.{◌≤◌};
 use crate::assert_equal::assert_equal;
 use crate::cores::{Buffers, LinearPlayers, StackPlayers};
 use crate::parts::{PARTS, Parts};
-use crate::pools::{LazyPools, LinearPools};
+use crate::pools::LazyPools;
 use crate::worlds::Worlds;
 use lockfree_object_pool::PullError;
 use std::alloc::Global;
@@ -124,11 +124,6 @@ fn ends<K: Kind, W: Abort + Wait + Copy>(rt: &W, alloc: Global) {
 }
 
 #[test]
-fn what_linear_pools_own_is_dropped(rt: HostRuntime) {
-    ends::<LinearPools, _>(&rt, rt.alloc());
-}
-
-#[test]
 fn what_lazy_pools_own_is_dropped(rt: HostRuntime) {
     ends::<LazyPools, _>(&rt, rt.alloc());
 }
@@ -171,7 +166,6 @@ fn what_each_owns_is_dropped_where_memory_was_refused(rt: HostRuntime) {
     let Ok(tally) = new_tally(rt.alloc()) else {
         return;
     };
-    ends_without_memory::<LinearPools, _>(&rt, rt.alloc(), &tally);
     ends_without_memory::<LazyPools, _>(&rt, rt.alloc(), &tally);
     ends_without_memory::<LinearPlayers, _>(&rt, rt.alloc(), &tally);
     ends_without_memory::<StackPlayers, _>(&rt, rt.alloc(), &tally);

@@ -1,9 +1,7 @@
-//! Values that are dropped by a reset, and lazy pools that make and discard items beside other
-//! threads.
+//! Lazy pools that make and discard items beside other threads.
 use crate::assert_equal::assert_equal;
 use lockfree_object_pool::clean::AnyValue;
 use lockfree_object_pool::closures::{Init, Keep};
-use lockfree_object_pool::recycling::{Pool, Recyclable};
 use lockfree_object_pool::{LazyObjectPool, PullError};
 use std::alloc::Global;
 use std::rt::Clock;
@@ -15,36 +13,6 @@ use std::thread::Threads;
 use std::time::{Duration, Instant};
 use test_values::tallied::{Tallied, TalliedValues};
 use test_values::tally::{Tally, new_tally};
-
-/// A recyclable value that can hold tallied ones.
-trait Holds: Recyclable {
-    /// Puts a tallied value into each part.
-    fn put(&mut self, tally: &Arc<Tally>) -> Option<()>;
-}
-
-impl Holds for (Option<Tallied>, Vec<Tallied>) {
-    fn put(&mut self, tally: &Arc<Tally>) -> Option<()> {
-        self.0 = Some(Tallied::new(tally)?);
-        self.1.push(Tallied::new(tally)?).ok()
-    }
-}
-
-/// How many tallied values live while they are held by an item, and when it has come back.
-fn living_in_an_item<T: Holds>(alloc: Global, tally: &Arc<Tally>) -> Option<(usize, usize)> {
-    let pool = Pool::<T>::with_recycler(alloc).ok()?;
-    let mut item = pool.pull().ok()?;
-    item.put(tally)?;
-    let living = tally.living();
-    drop(item);
-    Some((living, tally.living()))
-}
-
-#[test]
-fn what_a_recyclable_value_holds_is_dropped_at_its_return(rt: HostRuntime) {
-    let tally = new_tally(rt.alloc()).expect(&rt, "memory is left");
-    let living = living_in_an_item::<(Option<Tallied>, Vec<Tallied>)>(rt.alloc(), &tally);
-    assert_equal(&rt, living, Some((2, 0)));
-}
 
 /// How far a first making and the one that lets it end have come.
 #[derive(Drop)]

@@ -1,14 +1,17 @@
-//! Tests that go through each kind of pool, core, player, world and buffer pool in one way, and
-//! through each public type.
+//! Tests that go through kinds of pool, core, player, world and buffer pool in one way, and through
+//! each public type.
 //!
 //! `ends`: what each owns is dropped once, its items, its `init` and its `reset`, whichever call of
 //! `init` refuses and whichever request for memory is refused. `sizes`: the same at each size of
-//! one list. `let_go`: what a reset drops. `no_memory`, `calls`: calls that ask for none. `texts`:
-//! how each type is shown, compared and hashed.
+//! one list. `let_go`: lazy pools that discard beside other threads. `no_memory`, `calls`: calls
+//! that ask for none. `texts`: how each type is shown, compared and hashed. `buffers`: a pool of
+//! buffers of one page.
 #![tactic(auto)]
 
 #[cfg(test)]
 mod assert_equal;
+#[cfg(test)]
+mod buffers;
 #[cfg(test)]
 mod calls;
 #[cfg(test)]

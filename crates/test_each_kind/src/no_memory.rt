@@ -5,11 +5,11 @@
 //! the test.
 use crate::assert_equal::assert_equal;
 use crate::parts::{OwningInit, OwningReset, Parts};
-use crate::pools::{Lazy, Linear, Pulls, held};
+use crate::pools::{Lazy, Pulls, held};
 use lockfree_object_pool::clean::AnyValue;
 use lockfree_object_pool::linear_page::Chain;
 use lockfree_object_pool::page::Page;
-use lockfree_object_pool::{LazyObjectPool, LinearObjectPool, PullError};
+use lockfree_object_pool::{LazyObjectPool, PullError};
 use object_pool_cores::sequential::{NoneCore, Player, StackCore};
 use std::alloc::Global;
 use std::process::Abort;
@@ -59,23 +59,10 @@ fn take_turns<O: Pulls<W>, B: Pulls<W>, W: Abort + Print>(
     Ok(())
 }
 
-fn linear_pool(alloc: Global) -> Result<Arc<Linear>, PullError> {
-    let parts = parts(alloc)?;
-    let pool = LinearObjectPool::with_limit(alloc, parts.init, parts.reset, 3)?;
-    Ok(Arc::new(alloc, pool)?)
-}
-
 fn lazy_pool(alloc: Global) -> Result<Arc<Lazy>, PullError> {
     let parts = parts(alloc)?;
     let pool = LazyObjectPool::new(alloc, parts.init, parts.reset, 2 * ITEMS)?;
     Ok(Arc::new(alloc, pool)?)
-}
-
-#[test]
-fn turns_of_a_linear_pool_ask_for_no_memory(rt: HostRuntime) {
-    if let Ok(pool) = linear_pool(rt.alloc()) {
-        let _refused = take_turns(&rt, rt.alloc(), &pool, &&*pool);
-    }
 }
 
 #[test]

@@ -17,24 +17,6 @@ pub trait Pulls<W>: Drop {
     fn pull_one(&self, rt: &W) -> Result<Self::Item, PullError>;
 }
 
-pub type Linear = LinearObjectPool<Tallied, OwningInit, OwningReset, AnyValue>;
-
-impl<'p, W> Pulls<W> for &'p Linear {
-    type Item = LinearReusable<'p, Tallied, OwningInit, OwningReset, AnyValue>;
-
-    fn pull_one(&self, _rt: &W) -> Result<Self::Item, PullError> {
-        self.pull()
-    }
-}
-
-impl<W> Pulls<W> for Arc<Linear> {
-    type Item = LinearOwnedReusable<Tallied, OwningInit, OwningReset, AnyValue>;
-
-    fn pull_one(&self, _rt: &W) -> Result<Self::Item, PullError> {
-        self.pull_owned()
-    }
-}
-
 pub type Lazy = LazyObjectPool<Tallied, OwningInit, OwningReset, AnyValue>;
 
 impl<'p, W> Pulls<W> for &'p Lazy {
@@ -89,23 +71,6 @@ where
     drop(pool);
     drop(held);
     Ok(())
-}
-
-pub struct LinearPools;
-
-impl Kind for LinearPools {
-    fn use_up<W: Wait + Copy>(
-        rt: &W,
-        alloc: Global,
-        parts: Parts,
-        how: Use,
-    ) -> Result<(), PullError> {
-        let pool: Linear = LinearObjectPool::new(alloc, parts.init, parts.reset)?;
-        if how.is_owned {
-            return ends_owned(rt, alloc, pool, how.items);
-        }
-        hold_twice(rt, alloc, &&pool, how.items)
-    }
 }
 
 pub struct LazyPools;

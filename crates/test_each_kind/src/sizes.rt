@@ -2,7 +2,7 @@
 use crate::assert_equal::assert_equal;
 use crate::cores::{Buffers, LinearPlayers, StackPlayers};
 use crate::ends::{Kind, Use, ends_after_use};
-use crate::pools::{LazyPools, LinearPools};
+use crate::pools::LazyPools;
 use lockfree_object_pool::closures::{Clear, Init, Reset, WithCapacity};
 use std::alloc::Global;
 use std::process::Abort;
@@ -35,7 +35,6 @@ fn holds<K: Kind, W: Abort + Wait + Copy>(rt: &W, alloc: Global) {
 
 #[test]
 fn items_of_each_size_of_pool_come_back(rt: HostRuntime) {
-    holds::<LinearPools, _>(&rt, rt.alloc());
     holds::<LazyPools, _>(&rt, rt.alloc());
 }
 

@@ -171,6 +171,24 @@ fn bare_closures(rt: HostRuntime) {
     assert_equal(&rt, (made.get(), reset.get()), (1, 1));
 }
 
+/// What a maker by a closure answers first.
+fn first_of<I: InitBy<u32>>(init: I) -> Option<u32>
+    requires { I.may_make init }
+{
+    Makes::<u32, I, AnyValue>::new(init).make()
+}
+
+/// A refusal is the answer at once.
+#[test]
+fn a_closure_that_refuses_is_asked_once(rt: HostRuntime) {
+    let calls = Cell::new(0u32);
+    let refuse = || -> Option<u32> {
+        calls.set(calls.get().saturating_add(1));
+        None
+    };
+    assert_equal(&rt, (first_of(refuse), calls.get()), (None, 1));
+}
+
 /// A maker by a closure may be shared where its values may only be sent.
 fn maker_is_shared<T: Send + Drop, F: InitBy<T> + Sync, K: Clean<T> + Send>(
     maker: &Makes<T, F, K>,

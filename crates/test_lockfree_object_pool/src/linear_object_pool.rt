@@ -12,25 +12,16 @@ use std::process::Abort;
 use std::sync::Arc;
 use std::sync::atomic::AtomicUsize;
 use std::sync::atomic::Ordering::SeqCst;
-use test_values::counted::NEVER;
-use test_values::tallied::{Tallied, TalliedValues};
-use test_values::tally::{Tally, new_tally};
-use test_values::zeros::{CountedZeros, ToZero, Zero, new_calls};
+use test_values::zeros::{CountedZeros, ToZero, Zero};
 
 mod callers;
-mod closures;
 mod histories;
 mod late_links;
 mod limits;
 mod makers;
 mod origins;
-mod owners;
-mod refusals;
 mod sends;
 mod threads;
-
-/// A pool of values that are counted.
-type Tracked = LinearObjectPool<Tallied, TalliedValues, Keep, AnyValue>;
 
 /// A pool that resets to 0.
 type ClearedPool = LinearObjectPool<u32, CountedZeros, ToZero, Zero>;
@@ -67,24 +58,6 @@ fn keep_out<T: Drop, K: Clean<T>, I: Init<T, K>, R: Reset<T, K>>(
         mem::forget(pool.pull()?);
     }
     Ok(())
-}
-
-/// Such a pool, whose `init` refuses at one call, counted from 0.
-fn shared(alloc: Global, counts: &Arc<Tally>, refused: usize) -> Result<Arc<Tracked>, PullError> {
-    let pool = LinearObjectPool::new(alloc, TalliedValues::new_but(counts, refused)?, Keep)?;
-    Ok(Arc::new(alloc, pool)?)
-}
-
-/// A pool of counted values that may have so many pages, in an `Arc`.
-fn shared_within(
-    alloc: Global,
-    counts: &Arc<Tally>,
-    pages: usize,
-) -> Result<Arc<Tracked>, PullError>
-    requires { 1 ≤ pages }
-{
-    let pool = LinearObjectPool::with_limit(alloc, TalliedValues::new(counts)?, Keep, pages)?;
-    Ok(Arc::new(alloc, pool)?)
 }
 
 fn cleared(alloc: Global, calls: &Arc<AtomicUsize>) -> Cleared

@@ -84,19 +84,3 @@ fn another_value_comes_where_the_item_was_used_in_between(rt: HostRuntime) {
     };
     assert_equal(&rt, (*item, is_same), (9, false));
 }
-
-/// What two holders of one page know, one borrowed and one owned, goes into the note of a return.
-#[test]
-fn holders_tell_what_they_know(rt: HostRuntime) {
-    let pool = numbers(rt.alloc()).expect(&rt, "a pool is made");
-    let pool = Arc::new(rt.alloc(), pool).expect(&rt, "memory is left");
-    let mut owned = pool.pull_owned().expect(&rt, "an item is free");
-    let mut item = pool.pull().expect(&rt, "an item is free");
-    drop(owned.witness());
-    drop(item.witness());
-    drop(owned.note());
-    drop(item.note());
-    *owned = 11;
-    drop(owned.give_back());
-    assert_equal(&rt, *pool.pull().expect(&rt, "an item is free"), 11);
-}

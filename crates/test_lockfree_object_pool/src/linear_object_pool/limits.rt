@@ -12,18 +12,6 @@ use lockfree_object_pool::made_or_reset::MadeOrReset;
 use lockfree_object_pool::page::PullPass;
 use std::process::Abort;
 
-#[test]
-fn a_limit_is_told(rt: HostRuntime) {
-    let calls = count_of_calls(&rt, rt.alloc());
-    let unlimited = cleared(rt.alloc(), &calls)
-        .expect(&rt, "a pool is made")
-        .limit();
-    let limited = bounded(rt.alloc(), &calls, 3)
-        .expect(&rt, "a pool is made")
-        .limit();
-    assert_equal(&rt, (unlimited, limited), (None, Some(3)));
-}
-
 /// The evidence of the last page.
 type LastSeen<'p> = LimitSeen<
     'p,

@@ -1,0 +1,16 @@
+//! Tests of the linear pool by one thread: rows of commands, and games of random commands beside a
+//! plain model.
+#![tactic(auto)]
+
+#[cfg(test)]
+mod cases;
+#[cfg(test)]
+mod games;
+#[cfg(test)]
+mod model;
+#[cfg(test)]
+mod opened;
+#[cfg(test)]
+mod player;
+#[cfg(test)]
+mod refused;

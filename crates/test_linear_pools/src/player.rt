@@ -1,0 +1,352 @@
+//! One who calls a linear pool by commands: each public call of the pool and of its items.
+//!
+//! A command's first number is a held item's index (among those that are held, oldest first), the
+//! second a value to be written. The answer to a pull is `pulled`, the item's number (32 times that
+//! of its page, and that in the page) and its value.
+ghost use Rattle.std.specs.Prelude.{◌≢◌, IfSome, ⊤};
+
+use linear_pools::page::PullPass;
+use linear_pools::{LinearObjectPool, LinearOwnedReusable, LinearReusable, PullError};
+use pool_parts::clean::AnyValue;
+use pool_parts::closures::{Init, Reset};
+use rows::row::{Command, Player};
+use rows::said::Said;
+use std::alloc::{AllocError, Global};
+use std::mem;
+use std::sync::Arc;
+use std::sync::atomic::AtomicUsize;
+use std::sync::atomic::Ordering::SeqCst;
+use test_values::tallied::Tallied;
+use test_values::tally::Tally;
+
+/// What a pool's function objects share with the player.
+#[derive(Drop)]
+pub struct Shared {
+    pub tally: Arc<Tally>,
+    /// The call that `init` refuses, counted from 0.
+    pub refused: AtomicUsize,
+    /// Whether a reset writes 0. Else it changes nothing.
+    pub zeroes: AtomicUsize,
+}
+
+/// Makes counted values and refuses one.
+#[derive(Drop)]
+pub struct Makes {
+    pub shared: Arc<Shared>,
+}
+
+impl Init<Tallied, AnyValue> for Makes {
+    ghost answers = { λ _ _. ⊤ };
+
+    fn make(&self) -> Option<Tallied> {
+        Tallied::new_but(&self.shared.tally, self.shared.refused.load(SeqCst))
+    }
+}
+
+/// Counts what it resets.
+#[derive(Drop)]
+pub struct Resets {
+    pub shared: Arc<Shared>,
+}
+
+impl Reset<Tallied, AnyValue> for Resets {
+    ghost leaves = { λ _ _ _. ⊤ };
+
+    fn reset(&self, value: &mut Tallied) {
+        self.shared.tally.count_reset();
+        if self.shared.zeroes.load(SeqCst) > 0 {
+            value.number = 0;
+        }
+    }
+}
+
+pub type Pool = LinearObjectPool<Tallied, Makes, Resets>;
+
+type Borrowed<'p> = LinearReusable<'p, Tallied, Makes, Resets>;
+
+pub type Owned = LinearOwnedReusable<Tallied, Makes, Resets>;
+
+/// An item, however it was pulled.
+#[derive(Drop)]
+enum Item<'p> {
+    Borrowed(Borrowed<'p>),
+    Owned(Owned),
+}
+
+/// The number of an item in its pool.
+fn number_of(page: usize, id: u8) -> usize {
+    page.wrapping_mul(32).wrapping_add(id as usize)
+}
+
+impl Item<'_> {
+    fn number(&self) -> usize {
+        match self {
+            Item::Borrowed(item) => number_of(item.page_number(), item.page_id()),
+            Item::Owned(item) => number_of(item.page_number(), item.page_id()),
+        }
+    }
+
+    fn value(&self) -> usize {
+        match self {
+            Item::Borrowed(item) => item.number,
+            Item::Owned(item) => item.number,
+        }
+    }
+
+    fn write(&mut self, value: usize) {
+        match self {
+            Item::Borrowed(item) => item.number = value,
+            Item::Owned(item) => item.number = value,
+        }
+    }
+
+    /// Tells a note of its page what its holder knows.
+    fn tell(&mut self) {
+        match self {
+            Item::Borrowed(item) => {
+                let (mut note, known) = (item.note(), item.witness());
+                item.tell(&mut note, known);
+            }
+            Item::Owned(item) => {
+                let (mut note, known) = (item.note(), item.witness());
+                item.tell(&mut note, known);
+            }
+        }
+    }
+
+    /// Returns it by a call, not by its drop.
+    fn give_back(self) {
+        match self {
+            Item::Borrowed(item) => drop(item.give_back()),
+            Item::Owned(item) => drop(item.give_back()),
+        }
+    }
+}
+
+fn borrowed<'p>(pulled: Result<Borrowed<'p>, PullError>) -> Result<Item<'p>, PullError> {
+    Ok(Item::Borrowed(pulled?))
+}
+
+fn owned<'p>(pulled: Result<Owned, PullError>) -> Result<Item<'p>, PullError> {
+    Ok(Item::Owned(pulled?))
+}
+
+/// Pulls by a call that shows what it found in place of an item.
+fn tried(pool: &Pool) -> Result<Borrowed<'_>, PullError> {
+    let pass = PullPass::new();
+    match pool.try_pull(&pass) {
+        Ok(item) => Ok(item),
+        Err(refusal) => Err(refusal.cause()),
+    }
+}
+
+/// Pulls an item and returns it. If it was of the first page, it pulls by the note of the return.
+fn tried_again(pool: &Pool) -> Result<Borrowed<'_>, PullError> {
+    let item = pool.pull()?;
+    if item.page_number() > 0 {
+        return Ok(item);
+    }
+    let note = item.give_back();
+    let pass = PullPass::new();
+    match pool.try_pull_from(&pass, note) {
+        Ok(item) => Ok(item),
+        Err(refusal) => Err(refusal.cause()),
+    }
+}
+
+/// Pulls an item apart from the pool, writes to it, resets it and returns it. The item's number,
+/// and what its value was.
+fn apart(pool: &Pool, written: usize) -> Result<(usize, usize), PullError> {
+    let (page, holding, mut value) = pool.pull_apart()?;
+    let seen = (number_of(page.get(), holding.number as u8), value.number);
+    value.number = written;
+    pool.reset(&mut value);
+    pool.give_reset(page, holding, value);
+    Ok(seen)
+}
+
+/// The numbers of two items, which come back in turn. Two of one page have two numbers there.
+fn pair(pool: &Pool) -> Result<(usize, usize), PullError> {
+    let mut one = pool.pull()?;
+    let mut other = pool.pull()?;
+    let numbers = (
+        number_of(one.page_number(), one.page_id()),
+        number_of(other.page_number(), other.page_id()),
+    );
+    if one.page_number() == other.page_number() {
+        one.same_page(&mut other);
+        one.differs_from(&mut other);
+    }
+    drop(one);
+    Ok(numbers)
+}
+
+/// What is said of two numbers, or why there are none.
+fn said_of(words: &'static str, numbers: Result<(usize, usize), PullError>) -> Said {
+    match numbers {
+        Ok((one, other)) => Said::of(words).and(one).and(other),
+        Err(cause) => refused(cause),
+    }
+}
+
+fn refused(cause: PullError) -> Said {
+    match cause {
+        PullError::Limit => Said::of("refused limit"),
+        PullError::Init => Said::of("refused init"),
+        PullError::Memory => Said::of("refused memory"),
+        PullError::Closed => Said::of("closed"),
+    }
+}
+
+/// A pool, and what is held of it.
+#[derive(Drop)]
+pub struct LinearPlayer<'p> {
+    pool: &'p Arc<Pool>,
+    shared: &'p Arc<Shared>,
+    held: Vec<Item<'p>>,
+    /// How many items were forgotten, which stay out for good.
+    pub forgotten: usize,
+}
+
+impl<'p> LinearPlayer<'p> {
+    /// Creates one that holds nothing and has room for so many items.
+    pub fn new(
+        alloc: Global,
+        pool: &'p Arc<Pool>,
+        shared: &'p Arc<Shared>,
+        room: usize,
+    ) -> Result<LinearPlayer<'p>, AllocError> {
+        Ok(LinearPlayer {
+            pool,
+            shared,
+            held: Vec::with_capacity(alloc, room)?,
+            forgotten: 0,
+        })
+    }
+
+    /// Holds what was pulled.
+    fn hold(&mut self, pulled: Result<Item<'p>, PullError>) -> Said {
+        match pulled {
+            Ok(item) => {
+                let said = Said::of("pulled").and(item.number()).and(item.value());
+                match self.held.push(item) {
+                    Ok(()) => said,
+                    Err(_) => Said::of("no room"),
+                }
+            }
+            Err(cause) => refused(cause),
+        }
+    }
+
+    /// Does a command for which an item is held.
+    fn use_held(&mut self, command: Command) -> Said {
+        let [index, number, _] = command.numbers;
+        let Some(item) = self.held.get_mut(index) else {
+            return Said::of("not held");
+        };
+        match command.word {
+            "look" => Said::of("lies").and(item.number()).and(item.value()),
+            "write" => {
+                item.write(number);
+                Said::of("written")
+            }
+            _ => {
+                item.tell();
+                Said::of("told")
+            }
+        }
+    }
+
+    /// Does a command by which a held item leaves.
+    fn leave(&mut self, command: Command) -> Said {
+        let [index, _, _] = command.numbers;
+        if self.held.len() <= index {
+            return Said::of("not held");
+        }
+        let item = self.held.remove(index);
+        match (command.word, item) {
+            ("give", item) => {
+                item.give_back();
+                Said::of("returned")
+            }
+            ("forget", Item::Borrowed(item)) => {
+                mem::forget(item);
+                self.forgotten = self.forgotten.wrapping_add(1);
+                Said::of("forgotten")
+            }
+            (_, item) => {
+                drop(item);
+                Said::of("returned")
+            }
+        }
+    }
+
+    /// Sets what the function objects do from here on.
+    fn set(&self, command: Command) -> Said {
+        let tally = &self.shared.tally;
+        if command.word == "refuse" {
+            let call = tally.calls().wrapping_add(command.numbers[0]);
+            self.shared.refused.store(call, SeqCst);
+        } else {
+            self.shared.zeroes.store(1, SeqCst);
+        }
+        Said::of("set")
+    }
+
+    /// How often `init` was called, and values were reset and dropped.
+    fn counts(&self) -> Said {
+        let tally = &self.shared.tally;
+        Said::of("calls resets drops")
+            .and(tally.calls())
+            .and(tally.resets())
+            .and(tally.drops())
+    }
+
+    /// How many own the pool, and how many own the tally: each value that there is, and one beside
+    /// the pool.
+    fn owners(&self) -> Said {
+        Said::of("owners")
+            .and(Arc::strong_count(self.pool))
+            .and(Arc::strong_count(&self.shared.tally))
+    }
+
+    fn limit(&self) -> Said {
+        match self.pool.limit() {
+            Some(pages) => Said::of("limit").and(pages),
+            None => Said::of("no limit"),
+        }
+    }
+
+    /// The owned items that are held. The borrowed ones come back.
+    pub fn into_owned(self, alloc: Global) -> Result<Vec<Owned>, AllocError> {
+        let mut owned = Vec::with_capacity(alloc, self.held.len())?;
+        for item in self.held {
+            if let Item::Owned(item) = item {
+                owned.push(item)?;
+            }
+        }
+        Ok(owned)
+    }
+}
+
+impl<'p> Player for LinearPlayer<'p> {
+    fn play(&mut self, command: Command) -> Said {
+        let [written, _, _] = command.numbers;
+        let pool = self.pool;
+        match command.word {
+            "pull" => self.hold(borrowed(pool.pull())),
+            "try" => self.hold(borrowed(tried(pool))),
+            "again" => self.hold(borrowed(tried_again(pool))),
+            "owned" => self.hold(owned(pool.pull_owned())),
+            "apart" => said_of("apart", apart(pool, written)),
+            "pair" => said_of("two", pair(pool)),
+            "limit" => self.limit(),
+            "counts" => self.counts(),
+            "owners" => self.owners(),
+            "look" | "write" | "tell" => self.use_held(command),
+            "return" | "give" | "forget" => self.leave(command),
+            "refuse" | "zero" => self.set(command),
+            _ => Said::of("no such command"),
+        }
+    }
+}
