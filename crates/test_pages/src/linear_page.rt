@@ -2,18 +2,15 @@
 use page_chain::linear_page::{Chain, LinearPage};
 use pool_parts::PullError;
 use pool_parts::clean::{AnyValue, Clean};
-use pool_parts::page::{Allocated, Page, PageSlot, PullPass};
-use std::alloc::Global;
+use pool_parts::page::{Allocated, PullPass};
 use std::mem;
 use std::process::Abort;
-use std::sync::Arc;
 
 mod links;
 mod lost_race;
 mod owned_walks;
 mod refusals;
 mod sends;
-mod walks;
 
 type Zeros = Chain<u32, AnyValue>;
 

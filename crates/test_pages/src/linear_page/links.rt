@@ -1,13 +1,10 @@
-//! Links: a link is set once, whoever asks, a chain may be long, and what two notes of one link
-//! say.
+//! Links: a link is set once, whoever asks, and what two notes of one link say.
 ghost use Rattle.std.specs.Prelude.{◌≡◌, IfSome};
 ghost use Rattle.page_chain.specs.Walk.{shown_page};
 
 use super::*;
 use crate::assert_equal::assert_equal;
 use crate::zero::{refused, zero};
-use std::sync::atomic::AtomicUsize;
-use std::sync::atomic::Ordering::SeqCst;
 use std::thread;
 use std::thread::Threads;
 
@@ -36,41 +33,6 @@ fn linked_and_found<'c>(page: &ZeroPage<'c>) -> Option<(ZeroPage<'c>, ZeroPage<'
     let found = page.next_as(&mut other)?;
     note.compare(other);
     Some((linked, found))
-}
-
-/// Holds all items of a page that has none out. The test ends where one is.
-fn hold_all<'c>(
-    rt: &impl Abort,
-    alloc: Global,
-    page: &ZeroPage<'c>,
-) -> Vec<PageSlot<'c, u32, AnyValue>> {
-    let mut slots = Vec::with_capacity(alloc, 32).expect(rt, "memory is left");
-    for _ in 0..32 {
-        let slot = page.page().alloc().ok().flatten();
-        slots
-            .push(slot.expect(rt, "an item is free"))
-            .expect(rt, "memory is left");
-    }
-    slots
-}
-
-/// The page behind one that is held as a whole for the time.
-fn grown<'c>(
-    rt: &impl Abort,
-    alloc: Global,
-    page: &ZeroPage<'c>,
-    calls: &AtomicUsize,
-) -> ZeroPage<'c> {
-    let slots = hold_all(rt, alloc, page);
-    let make = || {
-        calls.fetch_add(1, SeqCst);
-        Some(0)
-    };
-    let next = behind_full(page, &make).expect(rt, "a page is linked");
-    for slot in slots {
-        Page::free(slot);
-    }
-    next
 }
 
 /// The ids that two pages give first, in turn.
@@ -115,40 +77,4 @@ fn two_threads_come_to_one_page(rt: HostRuntime) {
     forget_all(&rt, &first);
     let ids = race(&rt, &first);
     assert!(rt; ids == (Some(0), Some(1)) || ids == (Some(1), Some(0)));
-}
-
-/// Links so many pages after a chain's first one, and returns the last.
-pub fn grow_by<'c>(
-    rt: &impl Abort,
-    alloc: Global,
-    chain: &'c Zeros,
-    pages: usize,
-    calls: &AtomicUsize,
-) -> ZeroPage<'c> {
-    let mut page = chain.first();
-    for _ in 0..pages {
-        page = grown(rt, alloc, &page, calls);
-    }
-    page
-}
-
-/// The place of an item of a chain's first page.
-fn first_place(chain: &Zeros) -> Option<(u8, usize)> {
-    match chain.first().alloc_within(1, &zero) {
-        Ok((slot, number)) => Some((slot.id(), number)),
-        Err(_) => None,
-    }
-}
-
-#[test]
-fn sixteen_hundred_pages_are_linked_and_dropped(rt: HostRuntime) {
-    let calls = AtomicUsize::new(0);
-    let chain = Zeros::new(rt.alloc(), &zero).expect(&rt, "a chain is made");
-    let last = grow_by(&rt, rt.alloc(), &chain, 1_599, &calls);
-    assert_equal(
-        &rt,
-        (last.number(), calls.load(SeqCst), first_place(&chain)),
-        (1_599, 51_168, Some((0, 0))),
-    );
-    drop(chain);
 }

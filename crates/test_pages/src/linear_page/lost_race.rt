@@ -2,6 +2,7 @@
 //! linked.
 use super::*;
 use crate::assert_equal::assert_equal;
+use std::sync::Arc;
 use std::sync::atomic::AtomicUsize;
 use std::sync::atomic::Ordering::SeqCst;
 use std::thread;

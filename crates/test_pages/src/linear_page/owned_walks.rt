@@ -2,6 +2,8 @@
 use super::*;
 use crate::assert_equal::assert_equal;
 use pool_parts::page::OwnedSlot;
+use std::alloc::Global;
+use std::sync::Arc;
 use test_values::tallied::Tallied;
 use test_values::tally::{Tally, new_tally};
 

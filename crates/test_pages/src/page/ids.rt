@@ -1,4 +1,4 @@
-//! Pages in use: words, ids and values, on one thread and on two.
+//! The ids of a page that two threads share, and items that are told apart.
 use super::{item, owned_item};
 use crate::assert_equal::assert_equal;
 use crate::zero::zero;
@@ -8,8 +8,8 @@ use pool_parts::page::{Allocated, Page, PageSlot, PullPass, with_bit};
 use std::alloc::{AllocError, Global};
 use std::sync::Arc;
 use std::sync::atomic::{AtomicUsize, Ordering};
+use std::thread;
 use std::thread::Threads;
-use std::{mem, thread};
 
 /// How often a test's thread looks for the other one before the test fails.
 const TURNS: usize = 10_000_000;
@@ -20,60 +20,6 @@ type ZeroSlot<'s> = PageSlot<'s, u32, AnyValue>;
 
 fn zeros(alloc: Global) -> Result<Zeros, PullError> {
     Page::new(alloc, &zero)
-}
-
-/// The id of the item that a page gives, 32 where it gives none.
-fn id_of(found: &Result<Option<ZeroSlot<'_>>, PullError>) -> u8 {
-    match found {
-        Ok(Some(slot)) => slot.id(),
-        _ => 32,
-    }
-}
-
-#[test]
-fn a_new_page_is_free(rt: HostRuntime) {
-    let page = zeros(rt.alloc()).expect(&rt, "a page is made");
-    assert!(rt; !page.is_full());
-    assert_equal(&rt, page.get_mask(), 4294967295);
-}
-
-/// The word of a page once an item came back.
-fn word_after(page: &Zeros, slot: ZeroSlot<'_>) -> u32 {
-    Page::free(slot);
-    page.get_mask()
-}
-
-#[test]
-fn the_word_follows_three_items(rt: HostRuntime) {
-    let page = zeros(rt.alloc()).expect(&rt, "a page is made");
-    let zero = item(&page).expect(&rt, "item 0 is free");
-    let with_zero = (zero.id(), page.get_mask());
-    let one = item(&page).expect(&rt, "item 1 is free");
-    let with_one = (one.id(), page.get_mask());
-    let two = item(&page).expect(&rt, "item 2 is free");
-    let with_two = (two.id(), page.get_mask());
-    assert_equal(
-        &rt,
-        (with_zero, with_one, with_two),
-        (
-            (0, 0b11111111111111111111111111111110),
-            (1, 0b11111111111111111111111111111100),
-            (2, 0b11111111111111111111111111111000),
-        ),
-    );
-    assert_equal(
-        &rt,
-        (
-            word_after(&page, one),
-            word_after(&page, zero),
-            word_after(&page, two),
-        ),
-        (
-            0b11111111111111111111111111111010,
-            0b11111111111111111111111111111011,
-            4294967295,
-        ),
-    );
 }
 
 /// Takes up to `count` slots of a page.
@@ -89,42 +35,6 @@ fn take_slots<'s>(
         }
     }
     Ok(slots)
-}
-
-#[test]
-fn items_come_in_order_until_the_page_is_full(rt: HostRuntime) {
-    let page = zeros(rt.alloc()).expect(&rt, "a page is made");
-    let slots = take_slots(rt.alloc(), &page, 32).expect(&rt, "memory is left");
-    let mut next = 0u8;
-    for slot in &slots {
-        assert_equal(&rt, slot.id(), next);
-        next = next.wrapping_add(1);
-    }
-    let none_is_left = matches!(page.alloc(), Ok(None));
-    assert_equal(&rt, (next, page.is_full(), none_is_left), (32, true, true));
-}
-
-/// Whether a page is full once an item came back, and once it is out again.
-fn full_after(page: &Zeros, slot: ZeroSlot<'_>) -> (bool, bool) {
-    Page::free(slot);
-    let full = page.is_full();
-    drop(page.alloc()); // the only free item, which stays out
-    (full, page.is_full())
-}
-
-#[test]
-fn a_page_is_full_while_each_item_is_out(rt: HostRuntime) {
-    let page = zeros(rt.alloc()).expect(&rt, "a page is made");
-    let mut slots = Vec::with_capacity(rt.alloc(), 32).expect(&rt, "memory is left");
-    for _ in 0..32 {
-        assert!(rt; !page.is_full());
-        let slot = item(&page).expect(&rt, "an item is free");
-        slots.push(slot).expect(&rt, "memory is left");
-    }
-    assert!(rt; page.is_full());
-    for slot in slots {
-        assert_equal(&rt, full_after(&page, slot), (false, true));
-    }
 }
 
 /// Takes 16 slots, and waits until the other thread has 16 too. `None` where that didn't come, or
@@ -200,14 +110,6 @@ fn two_threads_share_the_ids_of_a_page(rt: HostRuntime) {
 }
 
 #[test]
-fn a_dropped_slot_leaves_its_id_out(rt: HostRuntime) {
-    let page = zeros(rt.alloc()).expect(&rt, "a page is made");
-    drop(page.alloc());
-    let word = page.get_mask();
-    assert_equal(&rt, (word, id_of(&page.alloc())), (4294967294, 1));
-}
-
-#[test]
 fn items_that_were_introduced_stay_as_they_are(rt: HostRuntime) {
     let page = zeros(rt.alloc()).expect(&rt, "a page is made");
     let page = Arc::new(rt.alloc(), page).expect(&rt, "memory is left");
@@ -224,16 +126,4 @@ fn items_that_were_introduced_stay_as_they_are(rt: HostRuntime) {
         (0, 1, 2, 3),
     );
     assert_equal(&rt, page.get_mask(), 4294967280);
-}
-
-#[test]
-fn each_item_that_is_taken_clears_its_bit_alone(rt: HostRuntime) {
-    let page = zeros(rt.alloc()).expect(&rt, "a page is made");
-    let mut word = u32::MAX;
-    for _ in 0..32 {
-        assert_equal(&rt, page.get_mask(), word);
-        word = word.wrapping_shl(1);
-        mem::forget(page.alloc());
-    }
-    assert_equal(&rt, (page.get_mask(), page.is_full()), (0, true));
 }

@@ -19,28 +19,6 @@ fn counted_page(
     Page::new(alloc, &|| Tallied::new_but(counts, refused_call))
 }
 
-/// The id and the number of an item that a page gives, which stays out.
-fn next_item(page: &Page<Tallied, AnyValue>) -> Option<(u8, usize)> {
-    match page.alloc() {
-        Ok(Some(slot)) => {
-            let seen = (slot.id(), slot.number);
-            mem::forget(slot);
-            Some(seen)
-        }
-        _ => None,
-    }
-}
-
-#[test]
-fn each_item_is_the_answer_of_its_call(rt: HostRuntime) {
-    let counts = new_tally(rt.alloc()).expect(&rt, "memory is left");
-    let page = counted_page(rt.alloc(), &counts, 32).expect(&rt, "a page is made");
-    assert_equal(&rt, counts.now(), (32, 0));
-    for id in 0..32u8 {
-        assert_equal(&rt, next_item(&page), Some((id, id as usize)));
-    }
-}
-
 #[test]
 fn init_that_refuses_stops_a_new_page(rt: HostRuntime) {
     for refused_call in 0..32usize {
