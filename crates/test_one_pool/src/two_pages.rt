@@ -1,7 +1,7 @@
 //! Two items of two pages of a linear pool.
-use linear_pools::LinearObjectPool;
 use linear_pools::clean::AnyValue;
 use linear_pools::closures::{Copied, Keep};
+use linear_pools::{LinearObjectPool, PullError};
 use one_pool::two_items::{are_two, pull_two, return_two};
 use std::test::Fail;
 
@@ -40,5 +40,20 @@ fn two_items_of_a_further_page(rt: HostRuntime) -> Result<(), Fail> {
         are_two(&mut one, &mut other);
     }
     assert_eq!(rt; (one.page_id(), other.page_id()), (0, 1));
+    Ok(())
+}
+
+#[test]
+fn the_last_item_at_the_limit_is_free_again_where_two_are_refused(
+    rt: HostRuntime,
+) -> Result<(), Fail> {
+    let alloc = rt.alloc();
+    let pool = LinearObjectPool::<u32, _, _, AnyValue>::with_limit(alloc, Copied::new(0), Keep, 1)?;
+    let mut held = Vec::new(alloc);
+    for _ in 0..HELD {
+        held.push(pool.pull()?)?;
+    }
+    assert_eq!(rt; pull_two(&pool).err(), Some(PullError::Limit));
+    assert_eq!(rt; pool.pull()?.page_id(), 31);
     Ok(())
 }
