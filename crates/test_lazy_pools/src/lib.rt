@@ -2,38 +2,42 @@
 #![tactic(auto)]
 
 #[cfg(test)]
-mod assert_equal;
-#[cfg(test)]
-mod causes;
-#[cfg(test)]
-mod clearing;
-#[cfg(test)]
 mod closing;
 #[cfg(test)]
 mod closing_threads;
 #[cfg(test)]
-mod gone;
+mod game;
 #[cfg(test)]
-mod limits;
+mod games;
+#[cfg(test)]
+mod hand;
+#[cfg(test)]
+mod items;
+#[cfg(test)]
+mod leavings;
 #[cfg(test)]
 mod makings;
 #[cfg(test)]
 mod memory;
 #[cfg(test)]
-mod numbers;
+mod plan;
 #[cfg(test)]
-mod owners;
+mod player;
+#[cfg(test)]
+mod plays;
 #[cfg(test)]
 mod recycling;
 #[cfg(test)]
 mod refusals;
 #[cfg(test)]
-mod rejecting;
-#[cfg(test)]
-mod schedules;
-#[cfg(test)]
 mod sends;
+#[cfg(test)]
+mod threads;
+#[cfg(test)]
+mod timed;
 #[cfg(test)]
 mod times;
 #[cfg(test)]
-mod waits;
+mod wakings;
+#[cfg(test)]
+mod watch;

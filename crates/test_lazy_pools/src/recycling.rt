@@ -1,7 +1,6 @@
 //! Collections, boxes, options and pairs as items, and items that are made as their type's default.
 ghost use Rattle.std.specs.Prelude.{⊤};
 
-use crate::assert_equal::assert_equal;
 use lazy_pools::closures::{ByDefault, Keep};
 use lazy_pools::recycling::{LazyPool, Recyclable};
 use lazy_pools::{LazyObjectPool, PullError};
@@ -50,11 +49,11 @@ fn comes_back_clean<T: HasParts>(rt: &impl Abort, alloc: Global) {
     let pool = LazyPool::<T>::with_recycler(alloc, 1).expect(rt, "a pool is made");
     for _ in 0..3 {
         let mut item = pool.pull().expect(rt, "an item is free");
-        assert_equal(rt, item.lengths(), [0; 5]);
+        assert_eq!(*rt; item.lengths(), [0; 5]);
         item.use_parts().expect(rt, "memory is left");
-        assert_equal(rt, item.lengths(), [1, 1, 1, 1, 5]);
+        assert_eq!(*rt; item.lengths(), [1, 1, 1, 1, 5]);
     }
-    assert_equal(rt, pool.made(), 1);
+    assert_eq!(*rt; pool.made(), 1);
 }
 
 #[test]
@@ -81,11 +80,7 @@ fn a_value_with_a_part_that_refuses_is_not_made(rt: HostRuntime) {
     let pair = LazyPool::<(Vec<u8>, Never)>::with_recycler(rt.alloc(), 1).expect(&rt, "a pool");
     let boxed = LazyPool::<Box<Never>>::with_recycler(rt.alloc(), 1).expect(&rt, "a pool");
     let refusals = (pair.pull().err(), boxed.pull().err());
-    assert_equal(
-        &rt,
-        refusals,
-        (Some(PullError::Init), Some(PullError::Init)),
-    );
+    assert_eq!(rt; refusals, (Some(PullError::Init), Some(PullError::Init)));
 }
 
 #[test]
@@ -96,5 +91,5 @@ fn an_item_is_made_as_its_types_default(rt: HostRuntime) {
         Keep,
         1,
     ).expect(&rt, "a pool is made");
-    assert_equal(&rt, pool.pull().map(|item| *item), Ok((0, false)));
+    assert_eq!(rt; pool.pull().map(|item| *item), Ok((0, false)));
 }

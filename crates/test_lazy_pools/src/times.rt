@@ -1,64 +1,95 @@
-//! Pulls that wait for so long at most.
-use crate::assert_equal::assert_equal;
-use crate::numbers::{Numbers, opened, wait_for_use};
-use lazy_pools::PullError;
-use std::rt::Clock;
-use std::sync::Wait;
-use std::thread;
-use std::thread::Threads;
-use std::time::{Duration, Instant};
-
-/// How many milliseconds are waited for.
-const SHORT: u64 = 30;
-
-/// How many no test comes to.
-const LONG: u64 = 20_000;
-
-/// Why a pull that waits for so many milliseconds is refused.
-fn refusal<R: Wait + Clock>(rt: &R, pool: &Numbers, time: u64) -> Option<PullError> {
-    pool.pull_timeout(rt, Duration::from_millis(time)).err()
-}
+//! Timed pulls by a clock of the test: what happens at a chosen step of one that waits.
+use crate::plays::plays;
 
 #[test]
-fn a_time_is_waited_for_and_then_the_limit_is_told(rt: HostRuntime) {
-    let pool = opened(&rt, rt.alloc());
-    let item = pool
-        .pull_timeout(&rt, Duration::from_millis(0))
-        .expect(&rt, "an item is free");
-    let start = Instant::now(&rt).expect(&rt, "the clock is read");
-    let limit = Some(PullError::Limit);
-    let refusals = (refusal(&rt, &pool, 0), refusal(&rt, &pool, SHORT));
-    assert_equal(&rt, refusals, (limit, limit));
-    let gone = start.elapsed(&rt).expect(&rt, "the clock is read");
-    assert!(rt; gone >= Duration::from_millis(SHORT) && gone < Duration::from_millis(LONG));
-    drop(item);
-    assert_equal(&rt, refusal(&rt, &pool, SHORT), None);
-    assert_equal(&rt, pool.pull().err(), None);
-}
-
-/// One thread holds the item for a while, and another, which begins meanwhile, waits for it. How
-/// long that waited.
-fn waited<R: Threads + Wait + Clock + Sync>(rt: &R, pool: &Numbers) -> Option<Duration> {
-    let (held, waited) = thread::join(
-        rt,
-        || {
-            let item = pool.pull().ok();
-            thread::sleep(rt, Duration::from_millis(SHORT));
-            item.is_some()
-        },
-        || {
-            wait_for_use(pool);
-            let start = Instant::now(rt).ok()?;
-            drop(pool.pull_timeout(rt, Duration::from_millis(LONG)).ok()?);
-            start.elapsed(rt).ok()
-        },
+fn a_return_before_a_waiter_counts_itself_is_found(rt: HostRuntime) {
+    plays(
+        &rt,
+        1,
+        "pull; then_return 0 1000 1; timed; looks; stands",
+        "pulled 0 0; set; pulled 0 0; looks 1 0; made 1 1 0",
     );
-    if held { waited } else { None }
 }
 
 #[test]
-fn an_item_that_comes_back_in_time_is_pulled(rt: HostRuntime) {
-    let pool = opened(&rt, rt.alloc());
-    let time = waited(&rt, &pool).expect(&rt, "each pull has an item");
-    assert!(rt; time < Duration::from_millis(LONG));
+fn a_return_between_a_try_and_its_sleep_is_found(rt: HostRuntime) {
+    plays(
+        &rt,
+        1,
+        "pull; then_return 0 1000 2; timed; looks; stands",
+        "pulled 0 0; set; pulled 0 0; looks 2 1; made 1 1 0",
+    );
+}
+
+#[test]
+fn a_closing_beside_a_waiter_is_found(rt: HostRuntime) {
+    plays(
+        &rt,
+        1,
+        "pull; then_close 0 1000 1; timed; looks; stands; return 0; counts",
+        "pulled 0 0; set; refused closed; looks 1 0; made 1 1 0; left; counts 1 1 1",
+    );
+    plays(
+        &rt,
+        1,
+        "pull; then_close 0 1000 2; owned_timed_with; looks; stands; return 0; counts",
+        "pulled 0 0; set; refused closed; looks 2 1; made 1 1 0; left; counts 1 1 1",
+    );
+}
+
+#[test]
+fn a_rejected_item_wakes_one_that_waits(rt: HostRuntime) {
+    plays(
+        &rt,
+        1,
+        "pull; reject; then_return 0 1000 2; timed; looks; stands; counts",
+        "pulled 0 0; done; set; pulled 0 1; looks 3 1; made 1 1 0; counts 2 1 1",
+    );
+}
+
+#[test]
+fn nothing_is_made_after_the_limit(rt: HostRuntime) {
+    plays(
+        &rt,
+        1,
+        "pull; then_discard 0 6000 2; timed; looks; counts; \
+         pull; then_discard 0 6000 2; timed_with; looks; counts; stands",
+        "pulled 0 0; set; refused limit; looks 3 1; counts 1 0 1; \
+         pulled 0 1; set; refused limit; looks 3 1; counts 2 0 2; made 1 0 0",
+    );
+}
+
+#[test]
+fn a_made_item_is_pulled_after_the_limit(rt: HostRuntime) {
+    plays(
+        &rt,
+        1,
+        "pull; then_return 0 9999 2; timed; looks; then_return 0 9999 2; timed_with; looks; counts",
+        "pulled 0 0; set; pulled 0 0; looks 2 1; set; pulled 0 0; looks 2 1; counts 1 2 0",
+    );
+}
+
+/// A wait ends at its limit, to the millisecond, also if it is woken for what another takes.
+#[test]
+fn a_limit_is_of_the_whole_wait(rt: HostRuntime) {
+    plays(
+        &rt,
+        1,
+        "pull; clock 10000; timed; looks; then_swap 0 5000 2; timed; looks; \
+         then_swap 0 4999 2; owned_timed; looks; then_discard 0 4999 2; timed; looks; counts",
+        "pulled 0 0; set; refused limit; looks 2 0; set; refused limit; looks 3 1; \
+         set; refused limit; looks 4 1; set; pulled 0 1; looks 3 1; counts 2 2 1",
+    );
+}
+
+#[test]
+fn a_clock_that_fails_ends_the_wait(rt: HostRuntime) {
+    plays(
+        &rt,
+        1,
+        "pull; clock 0 1; timed; looks; clock 0 2; timed_with; looks; \
+         then_discard 0 0 2; clock 0 3; owned_timed; looks; stands; owners; counts",
+        "pulled 0 0; set; refused limit; looks 1 0; set; refused limit; looks 2 0; \
+         set; set; refused limit; looks 3 1; made 1 0 0; owners 1; counts 1 0 1",
+    );
 }
