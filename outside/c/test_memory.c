@@ -179,17 +179,18 @@ static void take_none_by_caches(void) {
     kdr_place all[ITEMS], more = KDR_PLACE_EMPTY;
     check(kdr_pool_new(ITEMS, &one) == KDR_DONE, "no pool");
     long before = held, requests;
+    kdr_status status;
     for (requests = 0;; requests++) {
         asked = 0;
         refuse_at = requests;
-        kdr_status status = kdr_cache_new(&one, ROOM, 0, &cache);
+        status = kdr_cache_new(&one, ROOM, 0, &cache);
         refuse_at = -1;
-        if (status == KDR_DONE) {
+        if (status != KDR_NO_MEMORY) {
             break;
         }
-        check(status == KDR_NO_MEMORY, "a refused cache wasn't answered by its name");
         check(cache.at == NULL && held == before, "a refused cache left something behind");
     }
+    check(status == KDR_DONE, "no cache");
     check(requests > 0, "a cache takes no memory");
     kdr_cache great = KDR_CACHE_EMPTY;
     check(kdr_cache_new(&one, SIZE_MAX, 0, &great) == KDR_NO_MEMORY, "a cache of too much room was made");
