@@ -2,6 +2,8 @@
 //! that give it an item of one's own, or a value in place of one.
 use kundratu_pool::{Event, LazyPool, LazyReusable, Manager, NewError, OrElse, PullError};
 use std::error::Error;
+use std::fmt::{self, Display, Formatter};
+use std::num::ParseIntError;
 use std::panic::{catch_unwind, AssertUnwindSafe};
 use std::sync::atomic::{AtomicUsize, Ordering::SeqCst};
 use std::sync::{Arc, Mutex};
@@ -357,4 +359,35 @@ fn a_boxed_error_goes_on() {
     let pool = LazyPool::new(1, || Err(Boxed::from("no route")), |_| true);
     let error = pull(&pool.expect("there is memory")).expect_err("it fails");
     assert_eq!(error.to_string(), "the initializer failed: no route");
+    assert!(error.source().is_none());
+}
+
+/// An error of an initializer that has another one as its source.
+#[derive(Debug)]
+struct Refused(ParseIntError);
+
+impl Display for Refused {
+    fn fmt(&self, f: &mut Formatter<'_>) -> fmt::Result {
+        f.write_str("refused")
+    }
+}
+
+impl Error for Refused {
+    fn source(&self) -> Option<&(dyn Error + 'static)> {
+        Some(&self.0)
+    }
+}
+
+/// A pull's error has the source of a boxed error, which its own words don't have.
+#[test]
+fn a_boxed_errors_source_goes_on() {
+    let refused = || Refused("x".parse::<u32>().expect_err("it is no number"));
+    let shared: Box<dyn Error + Send + Sync> = refused().into();
+    let own: Box<dyn Error> = refused().into();
+    let errors: [Box<dyn Error>; 2] = [PullError::from(shared).into(), PullError::from(own).into()];
+    for error in errors {
+        assert_eq!(error.to_string(), "the initializer failed: refused");
+        let source = error.source().expect("it has one");
+        assert_eq!(source.to_string(), "invalid digit found in string");
+    }
 }

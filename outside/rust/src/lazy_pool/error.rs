@@ -1,4 +1,5 @@
 //! Why a pull of a lazy pool gave no item.
+use std::any::Any;
 use std::error::Error;
 use std::fmt::{self, Debug, Display, Formatter};
 
@@ -26,9 +27,21 @@ pub enum PullError<E> {
     Init(E),
 }
 
-/// It has no `source`: its words have the initializer's own. So `E` may be a boxed error too, which
-/// is no [`Error`] itself, and `?` turns both into a `Box<dyn Error>`.
-impl<E: Debug + Display> Error for PullError<E> {}
+/// Its words have the initializer's own, and its [`source`](Error::source) is what the initializer's
+/// error has as its source. That is known only of a boxed error, which is no [`Error`] itself: so `E`
+/// is any error that is shown, and `?` turns each into a `Box<dyn Error>`.
+impl<E: Debug + Display + 'static> Error for PullError<E> {
+    fn source(&self) -> Option<&(dyn Error + 'static)> {
+        let PullError::Init(error) = self else {
+            return None;
+        };
+        let error: &dyn Any = error;
+        match error.downcast_ref::<Box<dyn Error + Send + Sync>>() {
+            Some(error) => error.source(),
+            None => error.downcast_ref::<Box<dyn Error>>()?.source(),
+        }
+    }
+}
 
 impl<E: Display> Display for PullError<E> {
     fn fmt(&self, f: &mut Formatter<'_>) -> fmt::Result {
