@@ -137,7 +137,7 @@ impl Fixed {
     fn new_thread_slot(&self, number: &Number) -> Option<&ThreadSlot> {
         let pages = self.places().div_ceil(PAGE);
         let mut way = Way::new(number.get(), pages);
-        self.library.open(&mut way.handle);
+        way.handle = self.library.open();
         let own = Own {
             empty: Cell::new(Kept::NONE),
             way: RefCell::new(way),

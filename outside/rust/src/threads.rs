@@ -7,11 +7,10 @@ mod late;
 
 use crate::growing::Growing;
 use crate::refuse;
-use crate::sys::{kdr_pool_new, kdr_pool_pull_near, kdr_pool_share, Handle};
+use crate::sys::Handle;
 use std::cell::{Cell, RefCell};
-use std::iter;
 use std::marker::PhantomData;
-use std::sync::{Mutex, PoisonError, Weak};
+use std::sync::{Mutex, MutexGuard, PoisonError, Weak};
 
 /// How many numbers come first. Those after them come in groups, each of as many as all before.
 pub(crate) const FIRST: usize = 32;
@@ -35,9 +34,7 @@ thread_local! {
     static KNOWN: Cell<usize> = const { Cell::new(UNKNOWN) };
     /// How many calls a thread without a number makes before it asks again.
     static LEFT: Cell<u32> = const { Cell::new(0) };
-    static HOLDER: Holder = const {
-        Holder { handle: RefCell::new(None), pools: RefCell::new(Vec::new()) }
-    };
+    static HOLDER: Holder = const { Holder(RefCell::new(Vec::new())) };
 }
 
 /// The number of this thread, or what it has in place of one. It doesn't go to another thread.
@@ -134,31 +131,49 @@ impl<T> Owned<T> {
     }
 }
 
-/// What a thread holds until its end: its number, and the pools where it may keep places.
-struct Holder {
-    handle: RefCell<Option<Handle>>,
-    pools: RefCell<Vec<Weak<Growing>>>,
+/// The pools where a thread may keep places. Its end returns them, and the thread's number.
+struct Holder(RefCell<Vec<Weak<Growing>>>);
+
+/// The pools of numbers: a first one, and one for each group.
+static POOLS: [Mutex<Option<Handle>>; GROUPS + 1] = [const { Mutex::new(None) }; GROUPS + 1];
+
+/// Returns how many numbers come before those of a pool.
+fn before(pool: usize) -> usize {
+    pool.checked_sub(1).map_or(0, |group| FIRST << group)
 }
 
-/// Handles of the pools of numbers, of which those of threads are made.
-static GROUPS_OF_NUMBERS: [Mutex<Option<Handle>>; GROUPS + 1] =
-    [const { Mutex::new(None) }; GROUPS + 1];
+fn lock(pool: usize) -> MutexGuard<'static, Option<Handle>> {
+    POOLS[pool].lock().unwrap_or_else(PoisonError::into_inner)
+}
 
-/// Pulls a number of the first group that has one. The end of this handle of it returns it.
-pub(crate) fn pull_number(handle: &mut Option<Handle>) -> Option<usize> {
-    let sizes = iter::once(0).chain((0..GROUPS).map(|group| FIRST << group));
-    for (group, before) in GROUPS_OF_NUMBERS.iter().zip(sizes) {
-        let first = &mut *group.lock().unwrap_or_else(PoisonError::into_inner);
-        kdr_pool_new(before.max(FIRST), first); // it is left alone if it has a pool
-        let mut number = NUMBERS;
-        kdr_pool_share(first, handle);
-        kdr_pool_pull_near(handle, 0, &mut number);
-        if number < NUMBERS {
-            return Some(before + number);
+/// Pulls a number of the first pool that has one.
+pub(crate) fn pull_number() -> Option<usize> {
+    (0..POOLS.len()).find_map(|pool| {
+        let mut numbers = lock(pool);
+        if numbers.is_none() {
+            *numbers = Handle::new(before(pool).max(FIRST));
         }
-        *handle = None;
+        let number = numbers.as_mut()?.pull(0)?;
+        Some(before(pool) + number)
+    })
+}
+
+/// Returns a number.
+///
+/// # Safety
+///
+/// It was pulled here, and is returned once.
+pub(crate) unsafe fn return_number(number: usize) {
+    let pool = (number / FIRST)
+        .checked_ilog2()
+        .map_or(0, |group| group as usize + 1);
+    if let Some(numbers) = &mut *lock(pool) {
+        #[allow(unused_unsafe)] // the call in Rust is safe
+        // SAFETY: the caller says it.
+        unsafe {
+            numbers.give_back(number - before(pool));
+        }
     }
-    None
 }
 
 impl Holder {
@@ -166,17 +181,20 @@ impl Holder {
     fn pull(&self) -> usize {
         #[cfg(all(target_os = "linux", target_env = "gnu"))]
         late::watch();
-        pull_number(&mut self.handle.borrow_mut()).unwrap_or(NONE)
+        pull_number().unwrap_or(NONE)
     }
 
     /// Returns what the thread keeps, and then its number.
     fn end(&self) {
         let number = Number::new(KNOWN.replace(ENDED));
-        let pools = self.pools.take().into_iter();
+        let pools = self.0.take().into_iter();
         for pool in pools.filter_map(|pool| pool.upgrade()) {
             pool.return_kept(&number);
         }
-        self.handle.take();
+        if number.get() < NUMBERS {
+            // SAFETY: the thread pulled it, and has it no more.
+            unsafe { return_number(number.get()) };
+        }
     }
 }
 
@@ -197,7 +215,7 @@ fn end_late() {
 /// Notes a pool where this thread keeps places, until its end. `None` if memory is refused.
 pub(crate) fn note(pool: Weak<Growing>) -> Option<()> {
     let note = |holder: &Holder| {
-        let pools = &mut *holder.pools.borrow_mut();
+        let pools = &mut *holder.0.borrow_mut();
         if pools.len() == pools.capacity() {
             pools.retain(|pool| pool.strong_count() > 0);
             pools.try_reserve(pools.len() + 1).ok()?;

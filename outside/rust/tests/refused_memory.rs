@@ -83,7 +83,7 @@ fn a_pull_whose_thread_is_refused_memory_answers_an_item() {
         let ran = thread::scope(|scope| scope.spawn(run).join());
         ran.expect("each pull answers")
     };
-    assert!(3 <= (0..).take_while(is_refused).count());
+    assert_eq!((0..).take_while(is_refused).count(), 2); // its slot and its handle
 }
 
 /// The same where the first call of a thread is a return.
@@ -104,7 +104,38 @@ fn a_return_whose_thread_is_refused_memory_returns_its_item() {
         assert_eq!(count_free(&pool), 20);
         ran.expect("each return is made")
     };
-    assert!(3 <= (0..).take_while(is_refused).count());
+    assert_eq!((0..).take_while(is_refused).count(), 2); // its slot and its handle
+}
+
+/// A thread whose first calls of a linear pool are refused memory leaves nothing at its end: what it
+/// returned is pulled again.
+#[test]
+fn a_thread_that_is_refused_memory_keeps_nothing_past_its_end() {
+    let _alone = heap::alone();
+    let is_refused = |&request: &usize| {
+        let made = Arc::new(AtomicUsize::new(0));
+        let count = Arc::clone(&made);
+        let pool = LinearObjectPool::new(move || count.fetch_add(1, SeqCst), |_| ());
+        let in_a_thread = |call: &(dyn Fn() -> bool + Sync)| {
+            thread::scope(|scope| scope.spawn(call).join().expect("it ends"))
+        };
+        in_a_thread(&|| *pool.pull() == 0); // it is made, and comes back at that thread's end
+        let is_over = in_a_thread(&|| {
+            ASKED.set(0);
+            REFUSED.set(request);
+            let numbers = [(); 2].map(|()| *pool.pull());
+            REFUSED.set(usize::MAX);
+            assert_eq!(numbers, [0; 2]);
+            request >= ASKED.get()
+        });
+        assert_eq!(
+            (*pool.pull(), made.load(SeqCst)),
+            (0, 1),
+            "at request {request}"
+        );
+        !is_over
+    };
+    assert!(2 <= (0..).take_while(is_refused).count());
 }
 
 /// From here on the process gets little more address space than it has.

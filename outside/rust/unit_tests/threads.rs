@@ -1,6 +1,6 @@
 //! Numbers of threads.
 use super::TESTED;
-use crate::threads::{pull_number, with, CALLS, FIRST, NUMBERS};
+use crate::threads::{pull_number, return_number, with, CALLS, FIRST, NUMBERS};
 use std::cell::RefCell;
 use std::collections::HashSet;
 use std::ffi::c_void;
@@ -8,7 +8,7 @@ use std::ptr::NonNull;
 use std::sync::atomic::{AtomicUsize, Ordering::SeqCst};
 use std::sync::mpsc::{channel, Sender};
 use std::sync::{Barrier, PoisonError};
-use std::thread;
+use std::{iter, thread};
 
 /// Returns the number of this thread, if it has one.
 fn own() -> Option<usize> {
@@ -94,16 +94,16 @@ fn a_thread_has_no_number_once_it_was_given_back() {
 
 /// A thread that came when all numbers were out asks again at each 64th call.
 #[test]
+#[allow(unsafe_code)]
 fn a_thread_without_a_number_gets_one_later() {
     let _alone = TESTED.lock().unwrap_or_else(PoisonError::into_inner);
     let run = || {
-        let mut handles: Vec<_> = (0..NUMBERS).map(|_| None).collect();
-        handles
-            .iter_mut()
-            .for_each(|handle| _ = pull_number(handle));
-        assert_eq!(own(), None);
-        let number = pull_number(&mut None);
-        drop(handles);
+        let numbers: Vec<_> = iter::from_fn(pull_number).collect();
+        assert!(numbers.len() <= NUMBERS && own().is_none());
+        let number = pull_number();
+        // SAFETY: each was pulled, and is returned once.
+        let give_back = |number| unsafe { return_number(number) };
+        numbers.into_iter().for_each(give_back);
         let calls = (1..1_000).find(|_| own().is_some());
         (number, calls)
     };

@@ -228,7 +228,7 @@ impl Way {
         if self.opens && self.handles.try_reserve(missing).is_ok() {
             self.handles
                 .extend(iter::repeat_with(|| None).take(missing));
-            library.open(&mut self.handles[number]);
+            self.handles[number] = library.open();
         }
     }
 }

@@ -7,41 +7,41 @@
 //! were in use at one moment.
 #![forbid(unsafe_code)]
 
-use super::{Place, NO_PLACE, PAGE};
+use super::PAGE;
 use std::sync::atomic::{AtomicU64, AtomicUsize, Ordering::SeqCst};
 use std::sync::Arc;
-
-// What calls return, as `kundratu_pool.h` names it.
-const DONE: u32 = 0;
-const ALL_IN_USE: u32 = 1;
-const HOLDS_ONE: u32 = 2;
-const HOLDS_NONE: u32 = 3;
-const NO_POOL: u32 = 4;
-const HAS_POOL: u32 = 5;
-const NO_PLACES: u32 = 6;
-const NO_MEMORY: u32 = 7;
-const NO_SUCH_PLACE: u32 = 9;
 
 /// What a return adds to the count of its word.
 const RETURN: u64 = 1 << PAGE;
 
-/// An open handle of a pool. At its end a place that it holds is returned.
-pub struct Handle {
-    pool: Arc<Places>,
-    held: Option<usize>,
-}
+/// An open handle of a pool.
+pub struct Handle(Arc<Places>);
 
-impl Drop for Handle {
-    fn drop(&mut self) {
-        if let Some(place) = self.held.take() {
-            self.pool.give(place);
-        }
+impl Handle {
+    /// Creates a pool of so many free places, of which there is one at least. `None` if memory is
+    /// refused.
+    pub fn new(places: usize) -> Option<Handle> {
+        Places::new(places).map(|places| Handle(Arc::new(places)))
+    }
+
+    /// Opens a further handle of its pool.
+    pub fn share(&mut self) -> Option<Handle> {
+        Some(Handle(Arc::clone(&self.0)))
+    }
+
+    /// Pulls a place, at this page first. `None` if all were out at one moment.
+    pub fn pull(&mut self, page: usize) -> Option<usize> {
+        self.0.pull(page)
+    }
+
+    /// Returns a place, which is out of this pool.
+    pub fn give_back(&mut self, place: usize) {
+        self.0.give(place);
     }
 }
 
 /// The places of a pool.
 struct Places {
-    count: usize,
     words: Vec<AtomicU64>,
     /// A page that may have free places.
     hint: AtomicUsize,
@@ -56,7 +56,7 @@ impl Places {
         let places_of = |page: usize| (count - page * PAGE).min(PAGE);
         words.extend((0..pages).map(|page| AtomicU64::new((1 << places_of(page)) - 1)));
         let hint = AtomicUsize::new(0);
-        Some(Places { count, words, hint })
+        Some(Places { words, hint })
     }
 
     /// Reads which places of a page are free, and how many returns it counts.
@@ -144,76 +144,4 @@ impl Places {
             self.set_hint(page);
         }
     }
-}
-
-/// Creates a pool of so many places. Its first handle goes to `out`, which was empty.
-pub fn kdr_pool_new(items: usize, out: &mut Option<Handle>) -> u32 {
-    if out.is_some() {
-        return HAS_POOL;
-    }
-    if items == 0 {
-        return NO_PLACES;
-    }
-    *out = Places::new(items).map(|pool| Handle {
-        pool: Arc::new(pool),
-        held: None,
-    });
-    out.as_ref().map_or(NO_MEMORY, |_| DONE)
-}
-
-/// Opens a further handle of a pool. It goes to `out`, which was empty.
-pub fn kdr_pool_share(handle: &mut Option<Handle>, out: &mut Option<Handle>) -> u32 {
-    if out.is_some() {
-        return HAS_POOL;
-    }
-    let Some(Handle { pool, .. }) = handle else {
-        return NO_POOL;
-    };
-    let pool = Arc::clone(pool);
-    *out = Some(Handle { pool, held: None });
-    DONE
-}
-
-/// Pulls a place, at this page first. The handle holds it, and `out` gets its number.
-pub fn kdr_pool_pull_near(own: &mut Option<Handle>, page: usize, out: &mut usize) -> u32 {
-    let Some(Handle { pool, held }) = own else {
-        return NO_POOL;
-    };
-    if held.is_some() {
-        return HOLDS_ONE;
-    }
-    *held = pool.pull(page);
-    held.map_or(ALL_IN_USE, |place| {
-        *out = place;
-        DONE
-    })
-}
-
-/// Pulls a place of the handle's pool, at this page first. It goes to `out`, which was empty.
-pub fn kdr_place_pull(handle: &mut Option<Handle>, page: usize, out: &mut Place) -> u32 {
-    let Some(Handle { pool, .. }) = handle else {
-        return NO_POOL;
-    };
-    if out.0 != NO_PLACE {
-        return HOLDS_ONE;
-    }
-    pool.pull(page).map_or(ALL_IN_USE, |place| {
-        out.0 = place;
-        DONE
-    })
-}
-
-/// Returns a place, which is empty from then on.
-pub fn kdr_place_return(handle: &mut Option<Handle>, place: &mut Place) -> u32 {
-    let Some(Handle { pool, .. }) = handle else {
-        return NO_POOL;
-    };
-    if place.0 == NO_PLACE {
-        return HOLDS_NONE;
-    }
-    if place.0 >= pool.count {
-        return NO_SUCH_PLACE;
-    }
-    pool.give(std::mem::replace(&mut place.0, NO_PLACE));
-    DONE
 }
