@@ -3,7 +3,7 @@ mod linear;
 mod none;
 mod stack;
 
-pub use linear::{LinearGuard, LinearObjectPool, LinearOwnedReusable, LinearReusable};
+pub use linear::{LinearObjectPool, LinearOwnedReusable, LinearReusable};
 pub use none::{NoneObjectPool, NoneReusable};
 pub use stack::{MutexObjectPool, MutexOwnedReusable, MutexReusable, SpinLock, Stack, StackGuard};
 pub use stack::{SpinLockObjectPool, SpinLockOwnedReusable, SpinLockReusable, StackObjectPool};

@@ -1,5 +1,4 @@
 //! An item that is held.
-use crate::slots::Slot;
 use std::fmt::{self, Debug, Formatter};
 use std::marker::PhantomData;
 use std::mem::ManuallyDrop;
@@ -11,17 +10,20 @@ use std::sync::Arc;
 ///
 /// # Safety
 ///
-/// Each place has a slot of its own.
+/// Each place has a value of its own, which stays where it is while the pool does.
 pub unsafe trait Source: Sized {
     /// What a guard gives.
     type Item;
     /// What lies at a place.
     #[doc(hidden)]
     type Value;
-
-    /// Returns the slot of a place.
+    /// How a guard names its place.
     #[doc(hidden)]
-    fn slot(&self, at: usize) -> &Slot<Self::Value>;
+    type At: Copy;
+
+    /// Returns where the value of a place lies.
+    #[doc(hidden)]
+    fn value(&self, at: Self::At) -> *mut Self::Value;
 
     /// Borrows the item of a value, which a held place has.
     #[doc(hidden)]
@@ -37,7 +39,7 @@ pub unsafe trait Source: Sized {
     ///
     /// The place was pulled from this pool, and is returned once. Nobody borrows its value.
     #[doc(hidden)]
-    unsafe fn end(&self, at: usize);
+    unsafe fn end(&self, at: Self::At);
 }
 
 /// An item that is held, of a pool that is held by a borrow or by an owner. Its end resets the item
@@ -48,44 +50,44 @@ pub unsafe trait Source: Sized {
 /// is_shared::<kundratu_pool::Reusable<'static, std::cell::Cell<u32>>>();
 /// ```
 #[must_use = "the item is returned at once"]
-pub struct Guard<P: Deref<Target: Source<Item = T>>, T> {
+pub struct Guard<P: Deref<Target: Source<Item = T, At = A>>, T, A: Copy = usize> {
     pool: P,
     /// The place of the item, which this guard alone holds.
-    at: usize,
+    at: A,
     /// A guard goes to threads, and is shared by them, as its item may.
     item: PhantomData<T>,
 }
 
 /// A guard keeps its item's address, but it doesn't promise to.
-impl<P: Deref<Target: Source<Item = T>>, T> Unpin for Guard<P, T> {}
+impl<P: Deref<Target: Source<Item = T, At = A>>, T, A: Copy> Unpin for Guard<P, T, A> {}
 
-impl<'p, S: Source> Guard<&'p S, S::Item> {
+impl<S: Source> Guard<&S, S::Item, S::At> {
+    /// Changes to a guard that keeps the pool, of which this is an owner.
+    #[inline(always)]
+    pub(crate) fn owned(self, pool: &Arc<S>) -> Guard<Arc<S>, S::Item, S::At> {
+        let pool = Arc::clone(pool);
+        let this = ManuallyDrop::new(self);
+        assert!(ptr::eq(this.pool, &*pool), "the owner is of another pool");
+        // SAFETY: this guard had the place, and ends here.
+        unsafe { Guard::new(pool, this.at) }
+    }
+}
+
+impl<P: Deref<Target: Source<Item = T, At = A>>, T, A: Copy> Guard<P, T, A> {
     /// Creates the guard of a place.
     ///
     /// # Safety
     ///
     /// The place was pulled from this pool, and nobody else has it.
     #[inline(always)]
-    pub(crate) unsafe fn new(pool: &'p S, at: usize) -> Self {
+    pub(crate) unsafe fn new(pool: P, at: A) -> Self {
         let item = PhantomData;
         Guard { pool, at, item }
     }
 
-    /// Changes to a guard that keeps the pool, of which this is an owner.
-    #[inline(always)]
-    pub(crate) fn owned(self, pool: &Arc<S>) -> Guard<Arc<S>, S::Item> {
-        let pool = Arc::clone(pool);
-        let this = ManuallyDrop::new(self);
-        assert!(ptr::eq(this.pool, &*pool), "the owner is of another pool");
-        let (at, item) = (this.at, PhantomData);
-        Guard { pool, at, item }
-    }
-}
-
-impl<P: Deref<Target: Source<Item = T>>, T> Guard<P, T> {
     /// Returns the item's place in its pool.
     #[inline(always)]
-    pub(crate) fn place(&self) -> usize {
+    pub(crate) fn place(&self) -> A {
         self.at
     }
 
@@ -93,18 +95,18 @@ impl<P: Deref<Target: Source<Item = T>>, T> Guard<P, T> {
     #[inline(always)]
     pub(crate) fn value(&self) -> &<P::Target as Source>::Value {
         // SAFETY: the guard alone has the place, and who writes there borrows it to write.
-        unsafe { &*self.pool.slot(self.at).0.get() }
+        unsafe { &*self.pool.value(self.at) }
     }
 
     /// Borrows what lies at the place, to write.
     #[inline(always)]
     pub(crate) fn value_mut(&mut self) -> &mut <P::Target as Source>::Value {
         // SAFETY: the guard alone has the place, and nobody else borrows it.
-        unsafe { &mut *self.pool.slot(self.at).0.get() }
+        unsafe { &mut *self.pool.value(self.at) }
     }
 }
 
-impl<P: Deref<Target: Source<Item = T>>, T> Deref for Guard<P, T> {
+impl<P: Deref<Target: Source<Item = T, At = A>>, T, A: Copy> Deref for Guard<P, T, A> {
     type Target = T;
 
     #[inline(always)]
@@ -113,14 +115,14 @@ impl<P: Deref<Target: Source<Item = T>>, T> Deref for Guard<P, T> {
     }
 }
 
-impl<P: Deref<Target: Source<Item = T>>, T> DerefMut for Guard<P, T> {
+impl<P: Deref<Target: Source<Item = T, At = A>>, T, A: Copy> DerefMut for Guard<P, T, A> {
     #[inline(always)]
     fn deref_mut(&mut self) -> &mut T {
         P::Target::item_mut(self.value_mut())
     }
 }
 
-impl<P: Deref<Target: Source<Item = T>>, T> Drop for Guard<P, T> {
+impl<P: Deref<Target: Source<Item = T, At = A>>, T, A: Copy> Drop for Guard<P, T, A> {
     /// Resets the item and returns it. If the reset panics, the item is never pulled again.
     #[inline(always)]
     fn drop(&mut self) {
@@ -129,7 +131,7 @@ impl<P: Deref<Target: Source<Item = T>>, T> Drop for Guard<P, T> {
     }
 }
 
-impl<P: Deref<Target: Source<Item = T>>, T: Debug> Debug for Guard<P, T> {
+impl<P: Deref<Target: Source<Item = T, At = A>>, T: Debug, A: Copy> Debug for Guard<P, T, A> {
     fn fmt(&self, f: &mut Formatter<'_>) -> fmt::Result {
         (**self).fmt(f)
     }

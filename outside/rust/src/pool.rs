@@ -2,7 +2,7 @@
 use crate::fixed::Fixed;
 use crate::guard::{Guard, Source};
 use crate::or_else::OrElse;
-use crate::slots::{Slot, Slots};
+use crate::slots::Slots;
 use std::collections::TryReserveError;
 use std::fmt::{self, Debug, Display, Formatter};
 use std::{error::Error, iter, ops::Deref, sync::Arc};
@@ -108,10 +108,11 @@ impl<T, R: Fn(&mut T)> Pool<T, R> {
 unsafe impl<T, R: Fn(&mut T)> Source for Pool<T, R> {
     type Item = T;
     type Value = T;
+    type At = usize;
 
     #[inline(always)]
-    fn slot(&self, at: usize) -> &Slot<T> {
-        self.items.slot(at)
+    fn value(&self, at: usize) -> *mut T {
+        self.items.at(at)
     }
 
     #[inline(always)]
@@ -127,7 +128,7 @@ unsafe impl<T, R: Fn(&mut T)> Source for Pool<T, R> {
     #[inline(always)]
     unsafe fn end(&self, at: usize) {
         // SAFETY: the caller says it.
-        (self.reset)(unsafe { &mut *self.slot(at).0.get() });
+        (self.reset)(unsafe { &mut *self.value(at) });
         // SAFETY: the caller says it.
         unsafe { self.places.give_back(at) };
     }

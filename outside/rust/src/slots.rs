@@ -4,8 +4,7 @@ use std::cell::UnsafeCell;
 use std::collections::TryReserveError;
 
 /// A value at a place. Who holds the place reaches it.
-#[doc(hidden)]
-pub struct Slot<V>(pub(crate) UnsafeCell<V>);
+struct Slot<V>(UnsafeCell<V>);
 
 // SAFETY: a value is reached by its place's holder, of whom there is one at a time. So to share the
 // slots is to send the values from one to another.
@@ -36,10 +35,10 @@ impl<V> Slots<V> {
         self.0.into_iter().map(|slot| slot.0.into_inner())
     }
 
-    /// Returns the slot of a place.
+    /// Returns where the value of a place lies.
     #[inline(always)]
-    pub(crate) fn slot(&self, place: usize) -> &Slot<V> {
-        self.0.get(place).unwrap_or_else(|| refuse())
+    pub(crate) fn at(&self, place: usize) -> *mut V {
+        self.0.get(place).unwrap_or_else(|| refuse()).0.get()
     }
 }
 

@@ -1,33 +1,48 @@
 //! A pool that grows, by the names of lockfree-object-pool 0.1.6.
 use crate::growing::{Growing, Held, PartName, PARTS, SHARDS};
-use crate::guard::AtEnd;
+use crate::guard::{AtEnd, Guard, Source};
 use crate::once::OnceBox;
 use crate::pool::Reset;
 use crate::refuse;
-use crate::slots::{Slot, Slots};
+use crate::slots::Slots;
 use std::alloc::{handle_alloc_error, Layout};
 use std::fmt::{self, Debug, Formatter};
 use std::iter;
 use std::mem;
 use std::num::NonZeroUsize;
-use std::ops::{Deref, DerefMut};
 use std::ptr::NonNull;
 use std::sync::Arc;
 
 /// An item that was pulled under a borrow of its [`LinearObjectPool`].
-pub type LinearReusable<'a, T> = LinearGuard<&'a LinearObjectPool<T>, T>;
+pub type LinearReusable<'a, T> = Guard<&'a LinearObjectPool<T>, T, At<T>>;
 /// An item that was pulled with an owner of its [`LinearObjectPool`].
-pub type LinearOwnedReusable<T> = LinearGuard<Arc<LinearObjectPool<T>>, T>;
+pub type LinearOwnedReusable<T> = Guard<Arc<LinearObjectPool<T>>, T, At<T>>;
 
 /// What lies at the places of each part of a shard.
 type Parts<T> = [OnceBox<Slots<Option<Item<T>>>>; PARTS];
 
 /// An item, and one more than the place where it lies: a slot without an item needs no word more. So
 /// a guard has one word for both, and is sent with less.
-struct Item<T> {
+pub struct Item<T> {
     item: T,
     after: NonZeroUsize,
 }
+
+/// Where an item lies until its pool ends.
+pub struct At<T>(NonNull<Item<T>>);
+
+impl<T> Clone for At<T> {
+    fn clone(&self) -> Self {
+        *self
+    }
+}
+
+impl<T> Copy for At<T> {}
+
+// SAFETY: who has it goes to the item only by a guard, which is sent and shared as its item may be.
+unsafe impl<T> Send for At<T> {}
+// SAFETY: as above.
+unsafe impl<T> Sync for At<T> {}
 
 /// A pool whose pulls are never refused.
 ///
@@ -70,7 +85,7 @@ impl<T> LinearObjectPool<T> {
     pub fn pull(&self) -> LinearReusable<'_, T> {
         let held = self.places.pull(|at| self.find(at));
         // SAFETY: it was pulled just now.
-        unsafe { LinearGuard::new(self, held) }
+        unsafe { Guard::new(self, At(held.item.cast())) }
     }
 
     /// Returns an item as [`pull`](LinearObjectPool::pull) does, with a guard that keeps the pool.
@@ -78,7 +93,7 @@ impl<T> LinearObjectPool<T> {
     pub fn pull_owned(self: &Arc<Self>) -> LinearOwnedReusable<T> {
         let held = self.places.pull(|at| self.find(at));
         // SAFETY: as above.
-        unsafe { LinearGuard::new(Arc::clone(self), held) }
+        unsafe { Guard::new(Arc::clone(self), At(held.item.cast())) }
     }
 
     /// Returns this place with its item, which is made if there is none. The place is pulled if it
@@ -87,7 +102,7 @@ impl<T> LinearObjectPool<T> {
     fn find(&self, at: Option<usize>) -> Held {
         let at = at.unwrap_or_else(|| self.pull_far());
         // SAFETY: it was pulled just now, and nobody else has it.
-        let value = unsafe { &mut *self.slot(at).0.get() };
+        let value = unsafe { &mut *self.slot(at) };
         let item = match value {
             Some(item) => NonNull::from(item),
             None => self.make_item(at, value),
@@ -126,11 +141,11 @@ impl<T> LinearObjectPool<T> {
 
     /// Returns where the item of a place lies.
     #[inline(always)]
-    fn slot(&self, at: usize) -> &Slot<Option<Item<T>>> {
+    fn slot(&self, at: usize) -> *mut Option<Item<T>> {
         let (name, place) = PartName::of(at);
         let shard = self.shards[name.shard()].get();
         let part = shard.and_then(|shard| shard[name.part()].get());
-        part.unwrap_or_else(|| refuse()).slot(place)
+        part.unwrap_or_else(|| refuse()).at(place)
     }
 
     /// How many places the first part of a shard has: of great items few, since they have their
@@ -166,67 +181,34 @@ impl<T> Debug for LinearObjectPool<T> {
     }
 }
 
-/// An item of a [`LinearObjectPool`] that is held. Its end resets it and returns it.
-#[must_use = "the item is returned at once"]
-pub struct LinearGuard<P: Deref<Target = LinearObjectPool<T>>, T> {
-    pool: P,
-    /// What lies at a place, which this guard alone holds, until the pool ends.
-    item: NonNull<Item<T>>,
-}
-
-// SAFETY: a guard is the way to its item, which only it has, and an owner or a borrow of the pool.
-unsafe impl<P: Deref<Target = LinearObjectPool<T>> + Send, T: Send> Send for LinearGuard<P, T> {}
-// SAFETY: as above. By a shared guard threads share the item.
-unsafe impl<P: Deref<Target = LinearObjectPool<T>> + Sync, T: Sync> Sync for LinearGuard<P, T> {}
-
-impl<P: Deref<Target = LinearObjectPool<T>>, T> Unpin for LinearGuard<P, T> {}
-
-impl<P: Deref<Target = LinearObjectPool<T>>, T> LinearGuard<P, T> {
-    /// Creates the guard of a place.
-    ///
-    /// # Safety
-    ///
-    /// The place was pulled from this pool with its item, and nobody else has it.
-    #[inline(always)]
-    unsafe fn new(pool: P, held: Held) -> Self {
-        let item = held.item.cast();
-        LinearGuard { pool, item }
-    }
-}
-
-impl<P: Deref<Target = LinearObjectPool<T>>, T> Deref for LinearGuard<P, T> {
-    type Target = T;
+// SAFETY: each place has a slot of its own.
+unsafe impl<T> Source for LinearObjectPool<T> {
+    type Item = T;
+    type Value = Item<T>;
+    type At = At<T>;
 
     #[inline(always)]
-    fn deref(&self) -> &T {
-        // SAFETY: the guard alone has the place, and who writes there borrows it to write.
-        unsafe { &self.item.as_ref().item }
+    fn value(&self, at: At<T>) -> *mut Item<T> {
+        at.0.as_ptr()
     }
-}
 
-impl<P: Deref<Target = LinearObjectPool<T>>, T> DerefMut for LinearGuard<P, T> {
     #[inline(always)]
-    fn deref_mut(&mut self) -> &mut T {
-        // SAFETY: the guard alone has the place, and nobody else borrows it.
-        unsafe { &mut self.item.as_mut().item }
+    fn item(value: &Item<T>) -> &T {
+        &value.item
     }
-}
 
-impl<P: Deref<Target = LinearObjectPool<T>>, T> Drop for LinearGuard<P, T> {
-    /// Resets the item and returns it. If the reset panics, the item is never pulled again.
     #[inline(always)]
-    fn drop(&mut self) {
-        // SAFETY: as in `deref_mut`.
-        let Item { item, after } = unsafe { self.item.as_mut() };
-        (self.pool.reset)(item);
-        let (at, item) = (after.get() - 1, self.item.cast());
-        // SAFETY: the guard has the place, and ends here.
-        unsafe { self.pool.places.give_back(Held { at, item }) };
+    fn item_mut(value: &mut Item<T>) -> &mut T {
+        &mut value.item
     }
-}
 
-impl<P: Deref<Target = LinearObjectPool<T>>, T: Debug> Debug for LinearGuard<P, T> {
-    fn fmt(&self, f: &mut Formatter<'_>) -> fmt::Result {
-        (**self).fmt(f)
+    #[inline(always)]
+    unsafe fn end(&self, At(mut place): At<T>) {
+        // SAFETY: the caller says it.
+        let Item { item, after } = unsafe { place.as_mut() };
+        (self.reset)(item);
+        let (at, item) = (after.get() - 1, place.cast());
+        // SAFETY: the caller says it.
+        unsafe { self.places.give_back(Held { at, item }) };
     }
 }

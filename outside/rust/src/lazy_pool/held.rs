@@ -2,7 +2,6 @@
 use super::places::{Any, Closed, Kind, Taken};
 use super::{Entry, LazyPool, LazyReusable, PullError};
 use crate::guard::{AtEnd, Guard, Source};
-use crate::slots::Slot;
 use std::{mem, ops::Deref};
 
 /// A place that is held. At its end it is free, with the item that lies there or empty.
@@ -53,7 +52,7 @@ impl<'p, T, E> Held<'p, T, E> {
     /// Borrows what lies at the place.
     pub(super) fn entry(&mut self) -> &mut Entry<T> {
         // SAFETY: nobody else has the place, and this borrow of it is the only one.
-        unsafe { &mut *self.pool.slot(self.taken.place).0.get() }
+        unsafe { &mut *self.pool.value(self.taken.place) }
     }
 
     /// Changes to a guard. The place has an item.
@@ -91,9 +90,10 @@ pub(super) fn keep_if<T>(item: &mut Option<T>, is_kept: impl FnOnce(&mut T) -> b
 unsafe impl<T, E> Source for LazyPool<T, E> {
     type Item = T;
     type Value = Entry<T>;
+    type At = usize;
 
-    fn slot(&self, place: usize) -> &Slot<Entry<T>> {
-        self.items.slot(place)
+    fn value(&self, place: usize) -> *mut Entry<T> {
+        self.items.at(place)
     }
 
     fn item(value: &Entry<T>) -> &T {
