@@ -4,6 +4,8 @@ use crate::atomics::{fence, AtomicU64};
 use crate::atomics::{Ordering::AcqRel, Ordering::Acquire, Ordering::Release, Ordering::SeqCst};
 use crate::library::Library;
 use crate::pool::NewError;
+use crate::slots::OwnLines;
+use crate::status::Pulled;
 use crate::sys::{Handle, PAGE};
 use crate::thread_slots::ThreadSlots;
 use crate::threads::{self, Number, Owned};
@@ -14,14 +16,17 @@ const TOGETHER: isize = 4;
 
 /// The places of a pool.
 pub(crate) struct Fixed {
-    library: Library,
-    thread_slots: ThreadSlots<ThreadSlot>,
+    library: OwnLines<Library>,
+    thread_slots: ThreadSlots<OwnLines<ThreadSlot>>,
+    /// What threads without a slot pulled.
+    pulled: Pulled,
 }
 
-/// What a thread has of the pool, on cache lines of its own.
-#[repr(align(128))]
+/// What a thread has of the pool. What it keeps lies first: tests of order look for it there.
+#[repr(C)]
 struct ThreadSlot {
     kept: Kept,
+    pulled: Pulled,
     own: Owned<Own>,
 }
 
@@ -42,8 +47,6 @@ struct Way {
     moves: usize,
     /// How many more places are pulled than returned until the next move.
     left: isize,
-    /// Whether its last pull was refused.
-    was_refused: bool,
 }
 
 impl Fixed {
@@ -56,23 +59,28 @@ impl Fixed {
         if places == 0 {
             return Err(NewError::NoItems);
         }
-        let library = Library::new(places).ok_or(NewError::Memory)?;
-        let thread_slots = ThreadSlots::new();
         Ok(Fixed {
-            library,
-            thread_slots,
+            library: OwnLines(Library::new(places).ok_or(NewError::Memory)?),
+            thread_slots: ThreadSlots::new(),
+            pulled: Pulled::new(),
         })
     }
 
     /// Returns how many places there are.
     pub(crate) fn places(&self) -> usize {
-        self.library.places()
+        self.library.0.places()
+    }
+
+    /// Returns how many places were pulled and not returned, as each thread counts it.
+    pub(crate) fn pulled(&self) -> usize {
+        let of_threads = self.thread_slots.all().map(|slot| &slot.0.pulled);
+        Pulled::sum(of_threads.chain([&self.pulled]))
     }
 
     /// Pulls a place. `None` if all were out at one moment.
     #[inline(always)]
     pub(crate) fn pull(&self) -> Option<usize> {
-        let kept = threads::with_known(|number| self.thread_slots.get(number)?.take_own(number));
+        let kept = threads::with_known(|number| self.thread_slots.get(number)?.0.take_own(number));
         kept.or_else(|| self.pull_further())
     }
 
@@ -80,11 +88,18 @@ impl Fixed {
     #[inline(never)]
     fn pull_further(&self) -> Option<usize> {
         threads::with(|number| match number.and_then(|number| self.own(number)) {
-            Some(own) => {
+            Some((thread_slot, own)) => {
                 let way = &mut *own.way.borrow_mut();
-                way.pull(&self.library).or_else(|| way.look(self))
+                let place = way.pull(&self.library.0);
+                let place = place.or_else(|| self.look(&mut way.handle))?;
+                thread_slot.pulled.add_own(1);
+                Some(place)
             }
-            None => self.look(&mut None),
+            None => {
+                let place = self.look(&mut None)?;
+                self.pulled.add(1);
+                Some(place)
+            }
         })
     }
 
@@ -97,7 +112,7 @@ impl Fixed {
     pub(crate) unsafe fn give_back(&self, place: usize) {
         let is_kept = threads::with_known(|number| {
             let thread_slot = self.thread_slots.get(number);
-            thread_slot.is_some_and(|thread_slot| thread_slot.keep(place, number))
+            thread_slot.is_some_and(|thread_slot| thread_slot.0.keep(place, number))
         });
         if !is_kept {
             // SAFETY: the caller says it.
@@ -112,38 +127,47 @@ impl Fixed {
     /// As `give_back`.
     #[inline(never)]
     unsafe fn give_back_further(&self, place: usize) {
+        // SAFETY: the handles below are of this pool or empty, and the caller says the rest.
+        let give_back = |handle: &mut _| unsafe { self.library.0.give_back(handle, place, || ()) };
         threads::with(|number| match number.and_then(|number| self.own(number)) {
-            Some(own) => {
+            Some((thread_slot, own)) => {
                 let way = &mut *own.way.borrow_mut();
                 way.left += 1;
-                // SAFETY: the handle was opened here, and the caller says the rest.
-                unsafe { self.library.give_back(&mut way.handle, place) };
+                thread_slot.pulled.add_own(-1);
+                give_back(&mut way.handle);
             }
-            // SAFETY: as above.
-            None => unsafe { self.library.give_back(&mut None, place) },
+            None => {
+                self.pulled.add(-1);
+                give_back(&mut None);
+            }
         });
     }
 
     /// Returns what a thread has, which is made if it isn't there. `None` if memory is refused.
-    fn own<'o>(&'o self, number: &'o Number) -> Option<&'o Own> {
+    fn own<'o>(&'o self, number: &'o Number) -> Option<(&'o ThreadSlot, &'o Own)> {
         let thread_slot = match self.thread_slots.get(number) {
-            Some(thread_slot) => thread_slot,
+            Some(thread_slot) => &thread_slot.0,
             None => self.new_thread_slot(number)?,
         };
-        Some(thread_slot.own.get(number))
+        Some((thread_slot, thread_slot.own.get(number)))
     }
 
     #[cold]
     fn new_thread_slot(&self, number: &Number) -> Option<&ThreadSlot> {
         let pages = self.places().div_ceil(PAGE);
         let mut way = Way::new(number.get(), pages);
-        way.handle = self.library.open();
+        way.handle = self.library.0.open();
         let own = Own {
             empty: Cell::new(Kept::NONE),
             way: RefCell::new(way),
         };
-        let (kept, own) = (Kept::new(), Owned::new(number, own));
-        self.thread_slots.make(number, ThreadSlot { kept, own })
+        let thread_slot = OwnLines(ThreadSlot {
+            kept: Kept::new(),
+            pulled: Pulled::new(),
+            own: Owned::new(number, own),
+        });
+        let made = self.thread_slots.make(number, thread_slot)?;
+        Some(&made.0)
     }
 
     /// Pulls a place that a thread keeps or that the library has. `None` if all were out at a moment
@@ -162,7 +186,7 @@ impl Fixed {
                 Ok(place) => return Some(place),
                 Err(count) => count,
             };
-            if let Some(place) = self.library.pull(handle, 0) {
+            if let Some(place) = self.library.0.pull(handle, 0) {
                 return Some(place);
             }
             before = self.take_kept();
@@ -180,7 +204,7 @@ impl Fixed {
     fn take_kept(&self) -> Result<usize, u64> {
         let mut count = 0_u64;
         for thread_slot in self.thread_slots.all() {
-            match thread_slot.kept.take() {
+            match thread_slot.0.kept.take() {
                 Ok(place) => return Ok(place),
                 Err(often) => count = count.wrapping_add(often),
             }
@@ -193,13 +217,19 @@ impl ThreadSlot {
     /// Takes the place that the thread keeps, for the thread itself.
     #[inline(always)]
     fn take_own(&self, number: &Number) -> Option<usize> {
-        self.kept.take_own(self.own.get(number).empty.get())
+        let place = self.kept.take_own(self.own.get(number).empty.get())?;
+        self.pulled.add_own(1);
+        Some(place)
     }
 
     /// Keeps a place, if the thread keeps none.
     #[inline(always)]
     fn keep(&self, place: usize, number: &Number) -> bool {
-        self.kept.keep(place, &self.own.get(number).empty)
+        let is_kept = self.kept.keep(place, &self.own.get(number).empty);
+        if is_kept {
+            self.pulled.add_own(-1);
+        }
+        is_kept
     }
 }
 
@@ -273,25 +303,12 @@ impl Way {
             begin,
             moves: 0,
             left: TOGETHER,
-            was_refused: false,
         }
     }
 
-    /// Looks for a place everywhere.
-    #[cold]
-    fn look(&mut self, places: &Fixed) -> Option<usize> {
-        let place = places.look(&mut self.handle);
-        self.was_refused = place.is_none();
-        place
-    }
-
-    /// Pulls a place of the library. `None` if it refuses, or if the last pull was refused, so that
-    /// it is worth to look everywhere at once.
+    /// Pulls a place of the library.
     #[inline(always)]
     fn pull(&mut self, library: &Library) -> Option<usize> {
-        if self.was_refused {
-            return None;
-        }
         let place = library.pull(&mut self.handle, self.page)?;
         if place / PAGE != self.page || self.left <= 1 {
             self.go_on(place / PAGE, library.places().div_ceil(PAGE));

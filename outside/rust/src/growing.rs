@@ -2,30 +2,29 @@
 //! and writes. At its end it returns them.
 mod find;
 mod part;
+mod parts;
 mod thread_slot;
 
 use crate::atomics::AtomicUsize;
-use crate::once::OnceBox;
+use crate::atomics::{Ordering::Relaxed, Ordering::SeqCst};
 use crate::refuse;
+use crate::slots::OwnLines;
+use crate::status::Pulled;
 use crate::sys::{Handle, PAGE};
 use crate::thread_slots::ThreadSlots;
-use crate::threads::{self, Number, Owned};
+use crate::threads::{self, Number};
 use part::Part;
-pub(crate) use part::{PartName, PARTS, SHARDS};
+pub(crate) use parts::{PartName, Parts};
 use std::ptr::NonNull;
 use std::sync::{Arc, Mutex};
-use thread_slot::{Last, ThreadSlot, Way};
+use thread_slot::{Mine, ThreadSlot, Way};
 
 /// The places of a pool.
 pub(crate) struct Growing {
-    shards: [OnceBox<[OnceBox<Part>; PARTS]>; SHARDS],
-    thread_slots: ThreadSlots<OwnLines<Owned<ThreadSlot>>>,
+    parts: Parts<Part>,
+    thread_slots: ThreadSlots<OwnLines<ThreadSlot>>,
     news: OwnLines<News>,
 }
-
-/// It has cache lines of its own.
-#[repr(align(128))]
-struct OwnLines<T>(T);
 
 /// What who makes an item reads.
 struct News {
@@ -35,6 +34,8 @@ struct News {
     /// The places whose items weren't made, since `init` panicked, and how many they are.
     bare: Mutex<Vec<usize>>,
     bare_count: AtomicUsize,
+    /// What threads without a slot pulled.
+    pulled: Pulled,
 }
 
 /// A place that is held, and where its item lies.
@@ -51,13 +52,40 @@ impl Growing {
     /// Creates no place.
     pub(crate) fn new() -> Growing {
         Growing {
-            shards: [const { OnceBox::new() }; SHARDS],
+            parts: Parts::new(),
             thread_slots: ThreadSlots::new(),
             news: OwnLines(News {
                 changes: AtomicUsize::new(0),
                 bare: Mutex::new(Vec::new()),
                 bare_count: AtomicUsize::new(0),
+                pulled: Pulled::new(),
             }),
+        }
+    }
+
+    /// Returns how many places there are, how many of them have an item, and how many were pulled
+    /// and not returned, as each part and each thread counts it.
+    pub(crate) fn counts(&self) -> [usize; 3] {
+        let parts = || self.parts.all(0).map(|(_, part)| part);
+        let given: usize = parts().map(Part::given).sum();
+        let made = given.saturating_sub(self.news.0.bare_count.load(Relaxed));
+        let slots = || self.thread_slots.all().map(|slot| &slot.0);
+        let pulled = slots().map(|slot| &slot.pulled);
+        let pulled = Pulled::sum(pulled.chain([&self.news.0.pulled]));
+        let kept: usize = slots().map(ThreadSlot::kept).sum();
+        [
+            parts().map(|part| part.library.places()).sum(),
+            made,
+            pulled.wrapping_sub(kept),
+        ]
+    }
+
+    /// Counts that a thread pulled places of parts, or returned them there.
+    #[inline(always)]
+    fn count(&self, mine: Option<Mine<'_>>, more: isize) {
+        match mine {
+            Some(mine) => mine.pulled().add_own(more),
+            None => self.news.0.pulled.add(more),
         }
     }
 
@@ -66,58 +94,55 @@ impl Growing {
     #[inline(always)]
     pub(crate) fn pull(self: &Arc<Self>, item: impl Fn(Option<usize>) -> Held) -> Held {
         threads::with_known(|number| {
-            let thread_slot = self.thread_slots.get(number);
-            let thread_slot = thread_slot.map(|thread_slot| thread_slot.0.get(number));
-            let last = thread_slot.and_then(ThreadSlot::take_last);
-            last.unwrap_or_else(|| self.pull_other(thread_slot, item))
+            let mine = self.mine(number);
+            let kept = mine.and_then(Mine::take);
+            kept.unwrap_or_else(|| self.pull_other(mine, item))
         })
     }
 
-    /// Pulls a place other than the thread's last one.
+    /// Pulls a place that the thread doesn't keep.
     #[inline(never)]
     fn pull_other<I: Fn(Option<usize>) -> Held>(
         self: &Arc<Self>,
-        thread_slot: Option<&ThreadSlot>,
+        mine: Option<Mine<'_>>,
         item: I,
     ) -> Held {
         // A thread that isn't noted has no counts of its own yet.
-        let thread_slot = thread_slot.filter(|thread_slot| thread_slot.is_noted());
-        if let Some(held) = thread_slot.and_then(ThreadSlot::take_kept) {
-            return held;
-        }
-        if let Some(thread_slot) = thread_slot.filter(|thread_slot| thread_slot.only_pulls()) {
-            self.pull_ahead(thread_slot, &item);
-            if let Some(held) = thread_slot.take_kept() {
+        let mine = mine.filter(|mine| mine.is_noted());
+        if let Some(mine) = mine.filter(|mine| mine.only_pulls()) {
+            self.pull_ahead(mine, &item);
+            if let Some(held) = mine.take() {
                 return held;
             }
         }
-        item(thread_slot.and_then(|thread_slot| self.pull_near(thread_slot)))
+        item(mine.and_then(|mine| self.pull_near(mine)))
     }
 
-    /// Pulls as many returned places as the thread may keep beside its last one. It only pulls, and
-    /// who returns places writes where it pulls them, so each of its pulls would wait for that.
+    /// Pulls as many returned places as the thread may keep, but one. It only pulls, and who returns
+    /// places writes where it pulls them, so each of its pulls would wait for that.
     #[inline(never)]
-    fn pull_ahead(&self, thread_slot: &ThreadSlot, item: impl Fn(Option<usize>) -> Held) {
-        while thread_slot.has_room() {
-            let Some(at) = self.pull_near(thread_slot) else {
+    fn pull_ahead(&self, mine: Mine<'_>, item: impl Fn(Option<usize>) -> Held) {
+        while mine.has_room() {
+            let Some(at) = self.pull_near(mine) else {
                 break;
             };
             // It was returned, so it has its item, and no `init` is called.
-            thread_slot.keep_beside(item(Some(at)));
+            mine.keep(item(Some(at)));
         }
     }
 
     /// Pulls a place at the part of the thread's last pull, by its handle. `None` if there is none of
     /// them.
     #[inline(always)]
-    fn pull_near(&self, thread_slot: &ThreadSlot) -> Option<usize> {
-        let way = &mut *thread_slot.way.try_borrow_mut().ok()?;
+    fn pull_near(&self, mine: Mine<'_>) -> Option<usize> {
+        let way = &mut *mine.way()?;
         let (name, page) = (way.part?, way.page);
         let part = self.part(name);
-        part.says_returned().then_some(())?;
-        let place = part.pull(way.own_handle(name)?, page)?;
+        part.library.may_have_some().then_some(())?;
+        let place = part.library.pull(way.own_handle(name)?, page)?;
         way.go_on(place / PAGE, part.pages());
-        thread_slot.count_pull();
+        mine.count_pull();
+        self.count(Some(mine), 1);
         Some(name.at(place))
     }
 
@@ -130,20 +155,17 @@ impl Growing {
     #[inline(never)]
     pub(crate) fn pull_far(self: &Arc<Self>) -> Result<usize, Option<PartName>> {
         threads::with(|number| {
-            let home = number.as_ref().map_or(0, |number| number.get() % SHARDS);
-            let thread_slot = number.and_then(|number| self.thread_slot(number));
-            let Some(thread_slot) = thread_slot else {
-                let way = &mut Way::without_handles();
-                return self
-                    .find(way, home)
-                    .map_or_else(|| self.unmade(way, home), Ok);
-            };
-            if !thread_slot.is_noted() {
-                self.note(thread_slot); // where that is refused memory, it comes here again
+            let home = number.map_or(0, |number| number.get() % parts::SHARDS);
+            let mine = number.and_then(|number| self.mine_or_new(number));
+            if let Some(mine) = mine.filter(|mine| !mine.is_noted()) {
+                self.note(mine); // where that is refused memory, it comes here again
             }
-            let way = &mut *thread_slot.way.borrow_mut();
-            let found = self.find(way, home).inspect(|_| thread_slot.count_pull());
-            found.map_or_else(|| self.unmade(way, home), Ok)
+            let at = match mine.and_then(Mine::way) {
+                Some(mut way) => self.find_or_unmade(&mut way, home, mine),
+                None => self.find_or_unmade(&mut Way::without_handles(), home, None),
+            }?;
+            self.count(mine, 1);
+            Ok(at)
         })
     }
 
@@ -155,33 +177,31 @@ impl Growing {
     #[inline(always)]
     pub(crate) unsafe fn give_back(self: &Arc<Self>, held: Held) {
         threads::with_known(|number| {
-            let thread_slot = self.thread_slots.get(number);
-            let thread_slot = thread_slot.map(|thread_slot| thread_slot.0.get(number));
-            if !thread_slot.is_some_and(|thread_slot| thread_slot.keep_last(held)) {
+            let mine = self.mine(number);
+            if !mine.is_some_and(|mine| mine.keep(held)) {
                 // SAFETY: the caller says it.
-                unsafe { self.give_back_other(thread_slot, held) };
+                unsafe { self.give_back_other(mine, held) };
             }
         });
     }
 
-    /// Returns a place of a thread that keeps one as its last already, or isn't noted. If it keeps as
-    /// many as it may, this one goes back. If it only returns places, so do those beside its last one:
-    /// who pulls places writes where they go, so each of many returns would wait for that.
+    /// Returns a place of a thread that keeps as many as it may, or isn't noted. If it only returns
+    /// places, so do those that it keeps but the last one: who pulls places writes where they go, so
+    /// each of many returns would wait for that.
     ///
     /// # Safety
     ///
     /// As `give_back`.
     #[inline(never)]
-    unsafe fn give_back_other(self: &Arc<Self>, thread_slot: Option<&ThreadSlot>, held: Held) {
+    unsafe fn give_back_other(self: &Arc<Self>, mine: Option<Mine<'_>>, held: Held) {
         // A thread that isn't noted keeps this one, which it doesn't count.
-        let thread_slot = thread_slot.filter(|thread_slot| thread_slot.is_noted());
-        if thread_slot.is_some_and(|thread_slot| thread_slot.keep(held)) {
-            return;
-        }
+        let mine = mine.filter(|mine| mine.is_noted());
         // SAFETY: the caller says it, and it isn't kept.
-        unsafe { self.give_back_unless_first(thread_slot, held) };
-        if let Some(thread_slot) = thread_slot.filter(|thread_slot| thread_slot.count_return()) {
-            self.return_beside(thread_slot);
+        unsafe { self.give_back_unless_first(mine, held) };
+        if let Some(mine) = mine.filter(|mine| mine.count_return()) {
+            let last = mine.take();
+            self.return_all(mine);
+            last.into_iter().for_each(|last| _ = mine.keep(last));
         }
     }
 
@@ -191,20 +211,17 @@ impl Growing {
     ///
     /// As `give_back`.
     #[inline(always)]
-    unsafe fn give_back_unless_first(
-        self: &Arc<Self>,
-        thread_slot: Option<&ThreadSlot>,
-        held: Held,
-    ) {
+    unsafe fn give_back_unless_first(self: &Arc<Self>, mine: Option<Mine<'_>>, held: Held) {
         let (name, place) = PartName::of(held.at);
-        let part = self.part(name);
-        // SAFETY: the handles below are of this part or empty, and the caller says the rest.
-        let give_back = |handle: &mut _| unsafe { part.give_back(handle, place, self.changes()) };
-        let by_own = |thread_slot: &ThreadSlot| {
-            let way = &mut *thread_slot.way.try_borrow_mut().ok()?;
-            way.own_handle(name).map(give_back)
+        let library = &self.part(name).library;
+        let count_change = || _ = self.changes().fetch_add(1, SeqCst);
+        let give_back = |handle: &mut _| {
+            self.count(mine, -1);
+            // SAFETY: the handles below are of this part or empty, and the caller says the rest.
+            unsafe { library.give_back(handle, place, count_change) };
         };
-        if thread_slot.and_then(by_own).is_none() {
+        let by_own = |mine: Mine<'_>| mine.way()?.own_handle(name).map(give_back);
+        if mine.and_then(by_own).is_none() {
             self.give_back_far(held, give_back);
         }
     }
@@ -215,14 +232,13 @@ impl Growing {
     #[inline(never)]
     fn give_back_far(self: &Arc<Self>, held: Held, give_back: impl Fn(&mut Option<Handle>)) {
         let by_own = |number: Option<&Number>| {
-            let thread_slot = self.thread_slot(number?)?;
-            if thread_slot.is_noted() {
+            let mine = self.mine_or_new(number?)?;
+            if mine.is_noted() {
                 let (name, _) = PartName::of(held.at);
-                let way = &mut *thread_slot.way.borrow_mut();
-                give_back(way.handle(name, self.part(name).library()));
+                give_back(mine.way()?.handle(name, &self.part(name).library));
             } else {
-                self.note(thread_slot)?;
-                thread_slot.keep_last(held);
+                self.note(mine)?;
+                mine.keep(held);
             }
             Some(())
         };
@@ -232,74 +248,51 @@ impl Growing {
     }
 
     /// Notes that a thread keeps places, which it returns at its end. `None` if memory is refused.
-    fn note(self: &Arc<Self>, thread_slot: &ThreadSlot) -> Option<()> {
+    fn note(self: &Arc<Self>, mine: Mine<'_>) -> Option<()> {
         threads::note(Arc::downgrade(self))?;
-        thread_slot.begin();
+        mine.begin();
         Some(())
     }
 
-    /// Returns what a thread keeps beside its last place.
+    /// Returns what a thread keeps.
     #[inline(never)]
-    fn return_beside(self: &Arc<Self>, thread_slot: &ThreadSlot) {
-        while let Some(held) = thread_slot.take_kept() {
+    fn return_all(self: &Arc<Self>, mine: Mine<'_>) {
+        while let Some(held) = mine.take() {
             // SAFETY: the thread slot kept it, and has it no more.
-            unsafe { self.give_back_unless_first(Some(thread_slot), held) };
+            unsafe { self.give_back_unless_first(Some(mine), held) };
         }
     }
 
     /// Returns what a thread keeps, at its end.
     pub(crate) fn return_kept(self: &Arc<Self>, number: &Number) {
-        if let Some(ended) = self.thread_slots.get(number) {
-            let ended = ended.0.get(number);
-            self.return_beside(ended);
-            if let Some(held) = ended.take_last() {
-                // SAFETY: as above.
-                unsafe { self.give_back_unless_first(Some(ended), held) };
-            }
-            ended.last.set(Last::Unused);
+        if let Some(ended) = self.mine(number) {
+            self.return_all(ended);
+            ended.end();
         }
     }
 
     /// Makes a part of so many places, if it isn't there. `None` if memory is refused.
     pub(crate) fn make(&self, name: PartName, places: usize) -> Option<()> {
-        let shard = &self.shards[name.shard()];
-        let shard = match shard.get() {
-            Some(shard) => shard,
-            None => shard.set([const { OnceBox::new() }; PARTS])?,
-        };
-        let part = &shard[name.part()];
-        if part.get().is_none() {
-            part.set(Part::new(places)?)?;
-        }
-        Some(())
+        self.parts.make(name, || Part::new(places))
+    }
+
+    /// Returns a thread's slot, if it was made.
+    #[inline(always)]
+    fn mine<'s>(&'s self, number: &'s Number) -> Option<Mine<'s>> {
+        Some(self.thread_slots.get(number)?.0.mine(number))
     }
 
     /// Returns a thread's slot, which is made if it isn't there. `None` if memory is refused.
-    #[inline(always)]
-    fn thread_slot<'l>(self: &'l Arc<Self>, number: &'l Number) -> Option<&'l ThreadSlot> {
-        let thread_slot = match self.thread_slots.get(number) {
-            Some(thread_slot) => thread_slot,
-            None => self.new_thread_slot(number)?,
-        };
-        Some(thread_slot.0.get(number))
-    }
-
-    #[cold]
-    fn new_thread_slot(self: &Arc<Self>, number: &Number) -> Option<&OwnLines<Owned<ThreadSlot>>> {
-        self.thread_slots
-            .make(number, OwnLines(Owned::new(number, ThreadSlot::new())))
+    fn mine_or_new<'s>(&'s self, number: &'s Number) -> Option<Mine<'s>> {
+        let new = || OwnLines(ThreadSlot::new(number));
+        let made = || Some(self.thread_slots.make(number, new())?.0.mine(number));
+        self.mine(number).or_else(made)
     }
 
     /// Returns a part that has places.
     #[inline(always)]
     fn part(&self, name: PartName) -> &Part {
-        self.made(name).unwrap_or_else(|| refuse())
-    }
-
-    /// Returns a part, if it was made.
-    #[inline(always)]
-    fn made(&self, name: PartName) -> Option<&Part> {
-        self.shards[name.shard()].get()?[name.part()].get()
+        self.parts.get(name).unwrap_or_else(|| refuse())
     }
 
     #[inline(always)]

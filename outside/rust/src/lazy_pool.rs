@@ -19,7 +19,7 @@ use crate::{guard::Guard, or_else::OrElse, pool::NewError, slots::Slots};
 use builder::Calls;
 pub use builder::{Builder, BuilderOf, Manager};
 pub use error::PullError;
-pub use events::{Event, Status};
+pub use events::Event;
 use held::{keep_if, Got, Held};
 use idle::{Entry, Times};
 use places::Places;

@@ -27,6 +27,7 @@ mod or_else;
 mod pool;
 #[allow(unsafe_code)]
 mod slots;
+mod status;
 #[allow(unsafe_code)]
 mod sys;
 #[cfg(test)]
@@ -45,10 +46,11 @@ pub mod design {}
 
 pub use drop_in::*;
 pub use guard::{Guard, Source};
-pub use lazy_pool::{Builder, BuilderOf, Event, Manager, PullError, Status};
+pub use lazy_pool::{Builder, BuilderOf, Event, Manager, PullError};
 pub use lazy_pool::{LazyOwnedReusable, LazyPool, LazyReusable};
 pub use or_else::OrElse;
 pub use pool::{NewError, OwnedReusable, Pool, Reset, Reusable};
+pub use status::Status;
 
 /// Ends the process: a place is of another pool. It doesn't unwind, so a guard's end needs one way.
 #[cold]

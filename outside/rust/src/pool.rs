@@ -3,6 +3,7 @@ use crate::fixed::Fixed;
 use crate::guard::{Guard, Source};
 use crate::or_else::OrElse;
 use crate::slots::Slots;
+use crate::status::Status;
 use std::collections::TryReserveError;
 use std::fmt::{self, Debug, Display, Formatter};
 use std::{error::Error, iter, ops::Deref, sync::Arc};
@@ -101,6 +102,22 @@ impl<T, R: Fn(&mut T)> Pool<T, R> {
     /// Returns the number of items.
     pub fn items(&self) -> usize {
         self.places.places()
+    }
+
+    /// Returns how many items there are, and are in use. All are made, and nobody waits.
+    ///
+    /// It reads a count of each thread that came to the pool.
+    ///
+    /// ```
+    /// # use kundratu_pool::Pool;
+    /// let pool = Pool::<u32>::new(8, || 0, |_| ())?;
+    /// let item = pool.pull();
+    /// assert_eq!((pool.status().items, pool.status().in_use), (8, 1));
+    /// # Ok::<(), kundratu_pool::NewError>(())
+    /// ```
+    pub fn status(&self) -> Status {
+        let items = self.items();
+        Status::new([items, items, self.places.pulled()])
     }
 }
 

@@ -10,6 +10,10 @@ struct Slot<V>(UnsafeCell<V>);
 // slots is to send the values from one to another.
 unsafe impl<V: Send> Sync for Slot<V> {}
 
+/// A value that has cache lines of its own.
+#[repr(align(128))]
+pub(crate) struct OwnLines<V>(pub(crate) V);
+
 /// Values by their places.
 pub(crate) struct Slots<V>(Vec<Slot<V>>);
 

@@ -40,6 +40,17 @@ fn an_item_is_made_only_where_all_that_were_made_are_held() {
     }
 }
 
+/// A part is used up before the next one is made, which has twice as many places.
+#[test]
+fn each_place_of_a_part_is_used() {
+    let pool = LinearObjectPool::<u32>::new(|| 0, |_| ());
+    let mut items = Vec::new();
+    for room in [8, 24, 56, 120] {
+        items.resize_with(room, || pool.pull());
+        assert_eq!((pool.status().items, pool.status().made), (room, room));
+    }
+}
+
 #[test]
 fn a_pool_grows_to_many_items() {
     let pool = LinearObjectPool::<u8>::new(|| 0, |_| ());

@@ -15,9 +15,11 @@ mod growing;
 mod held_up;
 #[path = "threads.rs"]
 mod numbers;
+#[path = "scale.rs"]
+mod scale;
 #[path = "steps.rs"]
 mod steps;
-use steps::{explore, explore_after, Move, LOCKS, MOVES};
+use steps::{explore, explore_after, explore_changes, Move, LOCKS, MOVES};
 pub(crate) use steps::{locks, looked, meanwhile, returns, sets, step, TESTED};
 
 type Item = OwnedReusable<Cell<u32>>;
@@ -87,7 +89,13 @@ fn an_item_that_a_third_thread_keeps_is_pulled_by_one() {
 fn an_item_that_moves_between_thread_slots_is_found() {
     let twice = |two: &Two| (0..2).for_each(|_| bring_back(pull(two)));
     let once = |two: &Two| bring_back(pull(two));
-    explore(1_000, two_of_which_one_is_kept, [twice, once], all_are_free);
+    explore_changes(
+        4,
+        1_000,
+        two_of_which_one_is_kept,
+        [twice, once],
+        all_are_free,
+    );
 }
 
 /// A pool of one item, and the calls that began and ended: of each thread which, in their order.
@@ -251,7 +259,7 @@ fn an_item_that_a_third_thread_keeps_is_taken_by_one() {
             mem::forget(item);
         }
     };
-    explore(20, kept, [take, take], |(_, taken)| {
+    explore_changes(4, 20, kept, [take, take], |(_, taken)| {
         assert_eq!(taken.into_inner(), 1)
     });
 }
@@ -315,6 +323,66 @@ fn an_item_that_two_threads_keep_in_turn_is_found() {
     }
 }
 
+/// Of two items a thread keeps one, and the other one is held. At a step of a pull that thread pulls
+/// its own and keeps it again. At a later step the other item comes to the library, and then the first
+/// one is pulled. So one is free all the time, and is found.
+#[test]
+fn an_item_that_is_kept_again_meanwhile_is_found() {
+    let _alone = TESTED.lock().unwrap_or_else(PoisonError::into_inner);
+    for (first, second) in (0..10).flat_map(|first| (0..10).map(move |second| (first, second))) {
+        let Two(pool, _) = two();
+        let worker = Rc::new(Worker::new(&pool));
+        worker.order(true);
+        let other = pool.pull_owned();
+        worker.order(false); // it keeps its item
+        let again = Rc::clone(&worker);
+        let keep_again = move || {
+            [true, false]
+                .into_iter()
+                .for_each(|pulls| again.order(pulls))
+        };
+        let last = Rc::clone(&worker);
+        let return_other = move || {
+            in_a_thread(|| threads::with(|_| drop(other)));
+            last.order(true);
+        };
+        MOVES.set([one_move(first, keep_again), one_move(second, return_other)].into());
+        let item = pool.pull();
+        MOVES.take();
+        assert!(item.is_some(), "refused at {first} and {second}");
+    }
+}
+
+/// Two items are held by a thread, which keeps one when it returns it, so that the other one goes to
+/// the library. Another thread looks for both meanwhile. What is free then is found: writes are
+/// delayed.
+#[test]
+fn an_item_that_comes_back_beside_a_look_is_found() {
+    type Held = Mutex<Vec<OwnedReusable<Cell<u32>>>>;
+    type Shared = (Two, Held);
+    let made = || (two(), Held::default());
+    let hold = |(Two(pool, _), held): &Shared, thread: usize| {
+        if thread == 0 {
+            held.lock()
+                .expect("no panic")
+                .extend([pull_of(pool), pull_of(pool)]);
+        }
+        atomics::delay(true);
+    };
+    let returns = |(_, held): &Shared| drop(mem::take(&mut *held.lock().expect("no panic")));
+    let pulls = |(Two(pool, _), _): &Shared| drop((pool.pull(), pool.pull()));
+    explore_after(hold, 3, 100, made, [returns, pulls], |(Two(pool, _), _)| {
+        assert_eq!(
+            [(); 3].map(|()| pool.pull().map(mem::forget).is_some()),
+            [true, true, false]
+        );
+    });
+}
+
+fn pull_of(pool: &Arc<Pool<Cell<u32>>>) -> Item {
+    pool.pull_owned().expect("one is free")
+}
+
 /// A thread without a number goes by what threads share, as in a call within a call.
 #[test]
 fn a_thread_without_a_number_pulls_and_returns() {
@@ -334,11 +402,13 @@ fn a_thread_without_a_number_pulls_and_returns() {
         others
             .iter_mut()
             .for_each(|item| assert_ne!(mem::replace(&mut **item, 99), 99));
+        assert_eq!([pool.status().in_use, grows.status().in_use], [5, 50]);
         others.iter_mut().for_each(|item| **item = 0);
     };
     for _ in 0..3 {
         threads::with(|_| turn());
         assert_eq!(count.load(SeqCst), 51, "one is kept by this thread");
+        assert_eq!([pool.status().in_use, grows.status().in_use], [0, 0]);
     }
     turn();
     assert!(count.load(SeqCst) <= 51);

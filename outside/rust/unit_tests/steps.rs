@@ -43,6 +43,9 @@ thread_local! {
     pub(super) static AFTER: RefCell<VecDeque<Move>> = const { RefCell::new(VecDeque::new()) };
     /// How often this thread took a lock of the library's pools.
     pub(super) static LOCKS: Cell<usize> = const { Cell::new(0) };
+    /// How often it looked for a place of the library's pools, and how many steps it took.
+    pub(super) static LOOKS: Cell<usize> = const { Cell::new(0) };
+    pub(super) static STEPS: Cell<usize> = const { Cell::new(0) };
 }
 
 /// Makes this call, and these within it, each so many steps after the one before.
@@ -71,6 +74,7 @@ fn move_if_due(moves: &'static thread::LocalKey<RefCell<VecDeque<Move>>>) {
 
 /// Is called after each look at the library's places, before the thread knows whether it found one.
 pub(crate) fn looked(found: bool) {
+    let _ = LOOKS.try_with(|looks| looks.set(looks.get() + 1));
     if found {
         atomics::show();
     }
@@ -95,6 +99,7 @@ pub(crate) fn locks() {
 
 /// Is called before each step that other threads may see. It waits for the thread's turn.
 pub(crate) fn step() {
+    let _ = STEPS.try_with(|steps| steps.set(steps.get() + 1));
     move_if_due(&MOVES);
     if let Some((schedule, thread)) = THREAD.get() {
         let mut turns = schedule.leave(thread, State::Waits);
@@ -149,6 +154,17 @@ pub(super) fn explore<S: Sync>(
     check: impl Fn(S),
 ) {
     explore_after(|_, _| (), usize::MAX, least, make, works, check);
+}
+
+/// The same, with so many changes of the thread at most.
+pub(super) fn explore_changes<S: Sync>(
+    changes: usize,
+    least: usize,
+    make: impl Fn() -> S,
+    works: [fn(&S); 2],
+    check: impl Fn(S),
+) {
+    explore_after(|_, _| (), changes, least, make, works, check);
 }
 
 /// Returns the next choice after this one. Those before its last one change so often at most.

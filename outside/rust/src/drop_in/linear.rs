@@ -1,10 +1,10 @@
 //! A pool that grows, by the names of lockfree-object-pool 0.1.6.
-use crate::growing::{Growing, Held, PartName, PARTS, SHARDS};
+use crate::growing::{Growing, Held, PartName, Parts};
 use crate::guard::{AtEnd, Guard, Source};
-use crate::once::OnceBox;
 use crate::pool::Reset;
 use crate::refuse;
 use crate::slots::Slots;
+use crate::status::Status;
 use std::alloc::{handle_alloc_error, Layout};
 use std::fmt::{self, Debug, Formatter};
 use std::iter;
@@ -17,9 +17,6 @@ use std::sync::Arc;
 pub type LinearReusable<'a, T> = Guard<&'a LinearObjectPool<T>, T, At<T>>;
 /// An item that was pulled with an owner of its [`LinearObjectPool`].
 pub type LinearOwnedReusable<T> = Guard<Arc<LinearObjectPool<T>>, T, At<T>>;
-
-/// What lies at the places of each part of a shard.
-type Parts<T> = [OnceBox<Slots<Option<Item<T>>>>; PARTS];
 
 /// An item, and one more than the place where it lies: a slot without an item needs no word more. So
 /// a guard has one word for both, and is sent with less.
@@ -59,8 +56,8 @@ unsafe impl<T> Sync for At<T> {}
 /// ```
 pub struct LinearObjectPool<T> {
     places: Arc<Growing>,
-    /// What lies at the places of each part of each shard.
-    shards: [OnceBox<Parts<T>>; SHARDS],
+    /// What lies at the places of each part.
+    parts: Parts<Slots<Option<Item<T>>>>,
     init: Box<dyn Fn() -> T + Send + Sync>,
     reset: Reset<T>,
 }
@@ -74,7 +71,7 @@ impl<T> LinearObjectPool<T> {
     {
         LinearObjectPool {
             places: Arc::new(Growing::new()),
-            shards: [const { OnceBox::new() }; SHARDS],
+            parts: Parts::new(),
             init: Box::new(init),
             reset: Box::new(reset),
         }
@@ -94,6 +91,22 @@ impl<T> LinearObjectPool<T> {
         let held = self.places.pull(|at| self.find(at));
         // SAFETY: as above.
         unsafe { Guard::new(Arc::clone(self), At(held.item.cast())) }
+    }
+
+    /// Returns how many items have room now, are made, and are in use. Nobody waits.
+    ///
+    /// It reads a count of each thread that came to the pool, and of each part of it, of which there
+    /// are 256 at most.
+    ///
+    /// ```
+    /// # use kundratu_pool::LinearObjectPool;
+    /// let pool = LinearObjectPool::<u32>::new(Default::default, |_| ());
+    /// let (one, other) = (pool.pull(), pool.pull());
+    /// drop(other);
+    /// assert_eq!((pool.status().made, pool.status().in_use), (2, 1));
+    /// ```
+    pub fn status(&self) -> Status {
+        Status::new(self.places.counts())
     }
 
     /// Returns this place with its item, which is made if there is none. The place is pulled if it
@@ -143,8 +156,7 @@ impl<T> LinearObjectPool<T> {
     #[inline(always)]
     fn slot(&self, at: usize) -> *mut Option<Item<T>> {
         let (name, place) = PartName::of(at);
-        let shard = self.shards[name.shard()].get();
-        let part = shard.and_then(|shard| shard[name.part()].get());
+        let part = self.parts.get(name);
         part.unwrap_or_else(|| refuse()).at(place)
     }
 
@@ -156,17 +168,11 @@ impl<T> LinearObjectPool<T> {
         _ => 1,
     };
 
-    /// Makes a part, if it isn't there. `None` if memory is refused, or there are too many.
+    /// Makes a part, if it isn't there. `None` if memory is refused.
     fn make(&self, name: PartName) -> Option<()> {
-        let shard = &self.shards[name.shard()];
-        let shard = match shard.get() {
-            Some(shard) => shard,
-            None => shard.set([const { OnceBox::new() }; PARTS])?,
-        };
-        let (part, places) = (&shard[name.part()], Self::FIRST << name.part());
-        if part.get().is_none() {
-            part.set(Slots::new(iter::repeat_with(|| None).take(places))?)?;
-        }
+        let places = Self::FIRST << name.part();
+        let items = || Slots::new(iter::repeat_with(|| None).take(places));
+        self.parts.make(name, items)?;
         self.places.make(name, places)
     }
 

@@ -1,10 +1,9 @@
 //! How a pull finds a place that its thread doesn't keep, and where none is found, one without an
 //! item.
-use super::part::{Part, PartName, SHARDS};
-use super::thread_slot::Way;
-use super::{Growing, News};
+use super::part::Part;
+use super::thread_slot::{Mine, Way};
+use super::{Growing, News, PartName};
 use crate::atomics::{Ordering::Relaxed, Ordering::SeqCst};
-use crate::once::OnceBox;
 use crate::sys::PAGE;
 use std::sync::PoisonError;
 
@@ -20,9 +19,27 @@ enum Look {
 }
 
 impl Growing {
+    /// Finds a place that was returned, or gives one without an item.
+    ///
+    /// # Errors
+    ///
+    /// As `pull_far`.
+    pub(super) fn find_or_unmade(
+        &self,
+        way: &mut Way,
+        home: usize,
+        mine: Option<Mine<'_>>,
+    ) -> Result<usize, Option<PartName>> {
+        let found = self.find(way, home);
+        mine.filter(|_| found.is_some())
+            .into_iter()
+            .for_each(Mine::count_pull);
+        found.map_or_else(|| self.unmade(way, home), Ok)
+    }
+
     /// Finds a place that was returned. A place that others return and pull may pass by a look at all
     /// parts, so there are more of them while some part says that one may be found.
-    pub(super) fn find(&self, way: &mut Way, home: usize) -> Option<usize> {
+    fn find(&self, way: &mut Way, home: usize) -> Option<usize> {
         for _ in 0..ROUNDS {
             let changes = Some(self.changes().load(SeqCst));
             if way.changes_at_none == changes {
@@ -43,12 +60,12 @@ impl Growing {
     /// # Errors
     ///
     /// As `pull_far`.
-    pub(super) fn unmade(&self, way: &mut Way, home: usize) -> Result<usize, Option<PartName>> {
+    fn unmade(&self, way: &mut Way, home: usize) -> Result<usize, Option<PartName>> {
         if let Some(at) = self.take_bare() {
             return Ok(at);
         }
         let mut next = way.last.or(PartName::new(home, 0));
-        while let Some((name, part)) = next.and_then(|name| Some((name, self.made(name)?))) {
+        while let Some((name, part)) = next.and_then(|name| Some((name, self.parts.get(name)?))) {
             way.last = next;
             if let Some(place) = part.fresh() {
                 return Ok(name.at(place));
@@ -61,7 +78,7 @@ impl Growing {
     /// Looks at each part.
     fn look(&self, way: &mut Way, home: usize) -> Look {
         let mut look = Look::Empty;
-        for (name, part) in self.parts(home) {
+        for (name, part) in self.parts.all(home) {
             match self.pull_at(name, part, way) {
                 Ok(at) => return Look::Found(at),
                 Err(Look::Empty) => {}
@@ -73,27 +90,15 @@ impl Growing {
 
     /// Pulls a place of a part, if it says that one was returned.
     fn pull_at(&self, name: PartName, part: &Part, way: &mut Way) -> Result<usize, Look> {
-        if !part.says_returned() {
+        if !part.library.may_have_some() {
             return Err(Look::Empty);
         }
         let page = way.page;
-        let place = part.pull(way.handle(name, part.library()), page);
+        let place = part.library.pull(way.handle(name, &part.library), page);
         let place = place.ok_or(Look::Refused)?;
         way.part = Some(name);
         way.go_on(place / PAGE, part.pages());
         Ok(name.at(place))
-    }
-
-    /// Returns all parts, those of this shard first.
-    fn parts(&self, home: usize) -> impl Iterator<Item = (PartName, &Part)> {
-        (0..SHARDS).flat_map(move |step| self.shard((home + step) % SHARDS))
-    }
-
-    /// Returns the parts of a shard.
-    fn shard(&self, shard: usize) -> impl Iterator<Item = (PartName, &Part)> {
-        let parts = self.shards[shard].get().into_iter().flatten();
-        let parts = parts.map_while(OnceBox::get).enumerate();
-        parts.filter_map(move |(part, made)| Some((PartName::new(shard, part)?, made)))
     }
 
     /// Leaves a place without an item to a later pull that makes one. If that is refused memory, the
@@ -104,6 +109,7 @@ impl Growing {
     /// The place was pulled here, and is left once.
     #[cold]
     pub(crate) unsafe fn leave_bare(&self, at: usize) {
+        self.news.0.pulled.add(-1);
         self.with_bare(|bare| {
             if bare.try_reserve(1).is_ok() {
                 bare.push(at);

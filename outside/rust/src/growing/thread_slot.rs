@@ -1,12 +1,17 @@
 //! What a thread has of a pool that grows: the places that it keeps, and its way to others.
 use super::{Held, PartName};
 use crate::library::Library;
+use crate::status::Pulled;
 use crate::sys::Handle;
-use std::cell::{Cell, RefCell};
+use crate::threads::{Number, Owned};
+use std::cell::{Cell, RefCell, RefMut};
 use std::iter;
+use std::sync::atomic::{AtomicUsize, Ordering::Relaxed};
 
-/// How many places a thread keeps beside the last one.
-const KEPT: usize = 7;
+/// How many places a thread keeps.
+const KEPT: usize = 8;
+/// How many it keeps where no thread keeps places: the next one has to be noted first.
+const UNUSED: usize = usize::MAX;
 /// How many places a thread pulls at one page, if others return them, and how far it goes then: the
 /// words of pages so far apart lie on cache lines of their own.
 const TOGETHER: usize = 8;
@@ -16,25 +21,29 @@ const APART: usize = 17;
 const PULLS: u16 = 1_024;
 const RETURNS: u16 = 1_024;
 
-/// What a thread has of a pool.
+/// What a thread has of a pool. Others read its counts.
 pub(super) struct ThreadSlot {
-    pub(super) last: Cell<Last>,
-    /// The places that it keeps beside its last one.
+    /// How many places it keeps.
+    kept: AtomicUsize,
+    pub(super) pulled: Pulled,
+    own: Owned<Own>,
+}
+
+/// What other threads don't reach.
+struct Own {
+    /// The places that it keeps. The one that was returned last comes last.
     kept: [Cell<Option<Held>>; KEPT],
-    count: Cell<usize>,
     /// How often it pulled since its last return, and returned since its last pull, but what it kept.
     pulls: Cell<u16>,
     returns: Cell<u16>,
-    pub(super) way: RefCell<Way>,
+    way: RefCell<Way>,
 }
 
-/// The place that a thread returned last.
+/// The slot of the thread that calls.
 #[derive(Clone, Copy)]
-pub(super) enum Last {
-    /// No thread keeps places here. The next one has to be noted first.
-    Unused,
-    Pulled,
-    Kept(Held),
+pub(super) struct Mine<'s> {
+    slot: &'s ThreadSlot,
+    own: &'s Own,
 }
 
 /// How a thread comes to places that it doesn't keep.
@@ -57,114 +66,125 @@ pub(super) struct Way {
 }
 
 impl ThreadSlot {
-    /// Creates what a thread has.
-    pub(super) fn new() -> ThreadSlot {
-        ThreadSlot {
-            last: Cell::new(Last::Unused),
+    /// Creates what the thread of this number has.
+    pub(super) fn new(number: &Number) -> ThreadSlot {
+        let own = Own {
             kept: [const { Cell::new(None) }; KEPT],
-            count: Cell::new(0),
             pulls: Cell::new(0),
             returns: Cell::new(0),
             way: RefCell::new(Way::new(true)),
+        };
+        ThreadSlot {
+            kept: AtomicUsize::new(UNUSED),
+            pulled: Pulled::new(),
+            own: Owned::new(number, own),
         }
+    }
+
+    /// Returns the slot to its thread.
+    #[inline(always)]
+    pub(super) fn mine<'s>(&'s self, number: &'s Number) -> Mine<'s> {
+        let (slot, own) = (self, self.own.get(number));
+        Mine { slot, own }
+    }
+
+    /// Returns how many places the thread keeps.
+    pub(super) fn kept(&self) -> usize {
+        Some(self.kept.load(Relaxed))
+            .filter(|kept| *kept != UNUSED)
+            .unwrap_or(0)
+    }
+}
+
+impl<'s> Mine<'s> {
+    #[inline(always)]
+    fn count(self) -> usize {
+        self.slot.kept.load(Relaxed)
+    }
+
+    #[inline(always)]
+    fn set_count(self, count: usize) {
+        self.slot.kept.store(count, Relaxed);
     }
 
     /// Begins the work of a thread, whose end returns what it keeps here.
-    pub(super) fn begin(&self) {
-        let ThreadSlot {
-            last,
-            pulls,
-            returns,
-            ..
-        } = self;
-        last.set(Last::Pulled);
-        pulls.set(0);
-        returns.set(0);
-    }
-
-    /// Keeps a place as the last one, if there is none.
-    #[inline(always)]
-    pub(super) fn keep_last(&self, held: Held) -> bool {
-        let has_room = matches!(self.last.get(), Last::Pulled);
-        if has_room {
-            self.last.set(Last::Kept(held));
+    pub(super) fn begin(self) {
+        self.set_count(0);
+        for count in [&self.own.pulls, &self.own.returns] {
+            count.set(0);
         }
-        has_room
     }
 
-    /// Keeps a place as the last one, and the one before beside it, if there is one and room.
-    #[inline(always)]
-    pub(super) fn keep(&self, held: Held) -> bool {
-        let (Last::Kept(before), count) = (self.last.get(), self.count.get()) else {
-            return false;
-        };
-        let room = self.kept.get(count);
-        if let Some(room) = room {
-            room.set(Some(before));
-            self.count.set(count + 1);
-            self.last.set(Last::Kept(held));
-        }
-        room.is_some()
-    }
-
-    /// Takes the place that was returned last.
-    #[inline(always)]
-    pub(super) fn take_last(&self) -> Option<Held> {
-        let Last::Kept(held) = self.last.get() else {
-            return None;
-        };
-        self.last.set(Last::Pulled);
-        Some(held)
-    }
-
-    /// Takes the place that was kept last beside it.
-    #[inline(always)]
-    pub(super) fn take_kept(&self) -> Option<Held> {
-        let count = self.count.get().checked_sub(1)?;
-        self.count.set(count);
-        self.kept[count].take()
-    }
-
-    /// Whether a place may be kept beside the last one.
-    #[inline(always)]
-    pub(super) fn has_room(&self) -> bool {
-        self.count.get() < KEPT
-    }
-
-    /// Keeps a place beside the last one, where there is room.
-    #[inline(always)]
-    pub(super) fn keep_beside(&self, held: Held) {
-        let count = self.count.get();
-        self.kept[count].set(Some(held));
-        self.count.set(count + 1);
-    }
-
-    /// Whether the thread only pulls places.
-    #[inline(always)]
-    pub(super) fn only_pulls(&self) -> bool {
-        self.pulls.get() >= PULLS
-    }
-
-    /// Counts the pull of a place that wasn't kept.
-    #[inline(always)]
-    pub(super) fn count_pull(&self) {
-        self.pulls.set(self.pulls.get().saturating_add(1));
-        self.returns.set(0);
-    }
-
-    /// Counts the return of a place that isn't kept. Tells whether the thread only returns places.
-    #[inline(always)]
-    pub(super) fn count_return(&self) -> bool {
-        let returns = self.returns.get().saturating_add(1);
-        self.returns.set(returns);
-        self.pulls.set(0);
-        returns >= RETURNS
+    /// Ends the work of a thread, which keeps nothing any more.
+    pub(super) fn end(self) {
+        self.set_count(UNUSED);
     }
 
     /// Whether the thread's end returns what it keeps here.
     #[inline(always)]
-    pub(super) fn is_noted(&self) -> bool {
-        !matches!(self.last.get(), Last::Unused)
+    pub(super) fn is_noted(self) -> bool {
+        self.count() != UNUSED
+    }
+
+    /// Keeps a place, if there is room.
+    #[inline(always)]
+    pub(super) fn keep(self, held: Held) -> bool {
+        let count = self.count();
+        let room = self.own.kept.get(count);
+        if let Some(room) = room {
+            room.set(Some(held));
+            self.set_count(count + 1);
+        }
+        room.is_some()
+    }
+
+    /// Takes the place that was kept last.
+    #[inline(always)]
+    pub(super) fn take(self) -> Option<Held> {
+        let count = self.count().wrapping_sub(1);
+        let held = self.own.kept.get(count)?.get();
+        self.set_count(count);
+        held
+    }
+
+    /// Whether there is room for more than one place.
+    #[inline(always)]
+    pub(super) fn has_room(self) -> bool {
+        self.count() + 1 < KEPT
+    }
+
+    #[inline(always)]
+    pub(super) fn pulled(self) -> &'s Pulled {
+        &self.slot.pulled
+    }
+
+    /// Borrows the thread's way, if no call within a call has it.
+    #[inline(always)]
+    pub(super) fn way(self) -> Option<RefMut<'s, Way>> {
+        self.own.way.try_borrow_mut().ok()
+    }
+
+    /// Whether the thread only pulls places.
+    #[inline(always)]
+    pub(super) fn only_pulls(self) -> bool {
+        self.own.pulls.get() >= PULLS
+    }
+
+    /// Counts the pull of a place that wasn't kept.
+    #[inline(always)]
+    pub(super) fn count_pull(self) {
+        let pulls = &self.own.pulls;
+        pulls.set(pulls.get().saturating_add(1));
+        self.own.returns.set(0);
+    }
+
+    /// Counts the return of a place that isn't kept. Tells whether the thread only returns places.
+    #[inline(always)]
+    pub(super) fn count_return(self) -> bool {
+        let returns = self.own.returns.get().saturating_add(1);
+        self.own.returns.set(returns);
+        self.own.pulls.set(0);
+        returns >= RETURNS
     }
 }
 
@@ -199,22 +219,16 @@ impl Way {
         }
     }
 
-    /// Returns at which number the handle of a part lies.
-    #[inline(always)]
-    fn number(name: PartName) -> usize {
-        name.number()
-    }
-
     /// Returns its own handle of a part, if it has one.
     #[inline(always)]
     pub(super) fn own_handle(&mut self, name: PartName) -> Option<&mut Option<Handle>> {
-        let handle = self.handles.get_mut(Self::number(name))?;
+        let handle = self.handles.get_mut(name.number())?;
         handle.is_some().then_some(handle)
     }
 
     /// Returns the handle of a part, which is opened if it isn't. It is empty if memory is refused.
     pub(super) fn handle(&mut self, name: PartName, library: &Library) -> &mut Option<Handle> {
-        let number = Self::number(name);
+        let number = name.number();
         if self.own_handle(name).is_none() {
             self.open(number, library);
         }

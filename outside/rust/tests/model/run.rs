@@ -304,7 +304,18 @@ impl<'s, 'p: 's, const N: usize> Run<'s, 'p, N> {
                 assert_eq!(seen, [model.limit, model.made(), self.held[at].len(), 0]);
                 assert_eq!(pool.is_closed(), model.closed);
             }
-            AnyPool::Fixed(pool) => assert_eq!(pool.items(), model.limit),
+            AnyPool::Fixed(pool) => {
+                let status = pool.status();
+                let seen = [pool.items(), status.items, status.made, status.in_use];
+                let in_use = self.held[at].len() + model.lost;
+                assert_eq!(seen, [model.limit, model.limit, model.limit, in_use]);
+            }
+            AnyPool::Linear(pool) => {
+                let status = pool.status();
+                let in_use = self.held[at].len() + model.lost;
+                assert_eq!([status.made, status.in_use], [model.made(), in_use]);
+                assert!(status.made <= status.items);
+            }
             _ => {}
         }
     }
