@@ -85,18 +85,6 @@ impl<T, E> LazyPool<T, E> {
     /// # Errors
     ///
     /// `NoItems` if `items` is 0, or `Memory`, also if they are 2^32 or more.
-    ///
-    /// # Examples
-    ///
-    /// ```
-    /// # use kundratu_pool::LazyPool;
-    /// use std::net::TcpStream;
-    ///
-    /// let open = || TcpStream::connect("127.0.0.1:5432");
-    /// let is_kept = |stream: &mut TcpStream| matches!(stream.take_error(), Ok(None));
-    /// let pool = LazyPool::new(16, open, is_kept)?;
-    /// # Ok::<(), kundratu_pool::NewError>(())
-    /// ```
     pub fn new(
         items: usize,
         init: impl Fn() -> Result<T, E> + Send + Sync + 'static,
@@ -106,38 +94,12 @@ impl<T, E> LazyPool<T, E> {
     }
 
     /// Returns a builder of a pool of at most so many items.
-    ///
-    /// # Examples
-    ///
-    /// ```
-    /// use kundratu_pool::LazyPool;
-    /// use std::{fs::File, time::Duration};
-    ///
-    /// let pool = LazyPool::builder(4)
-    ///     .init(|| File::open("/dev/null"))
-    ///     .check(|file| file.metadata().is_ok())
-    ///     .life_time(Duration::from_secs(3_600))
-    ///     .fair()
-    ///     .build()?;
-    /// let file = pool.pull_wait()?;
-    /// # Ok::<(), Box<dyn std::error::Error>>(())
-    /// ```
     pub fn builder(items: usize) -> BuilderOf<T, E> {
         BuilderOf::new(items)
     }
 
     /// Checks each free item before it is pulled. If the check returns `false`, the item is
     /// dropped, and the pull makes another one in its place.
-    ///
-    /// # Examples
-    ///
-    /// ```
-    /// # use kundratu_pool::LazyPool;
-    /// let pool = LazyPool::<u32, ()>::new(4, || Ok(0), |_| true)?.with_check(|number| *number < 3);
-    /// *pool.pull().expect("one is made") = 3;
-    /// assert_eq!(*pool.pull().expect("another one is made"), 0);
-    /// # Ok::<(), kundratu_pool::NewError>(())
-    /// ```
     #[must_use]
     pub fn with_check(mut self, check: impl Fn(&mut T) -> bool + Send + Sync + 'static) -> Self {
         self.calls.check = Some(Box::new(check));
@@ -169,18 +131,6 @@ impl<T, E> LazyPool<T, E> {
 
     /// Pulls an item as [`pull`](LazyPool::pull) does. If that fails for any reason, this returns a
     /// value that belongs to no pool, and is dropped at its end.
-    ///
-    /// # Examples
-    ///
-    /// ```
-    /// # use kundratu_pool::LazyPool;
-    /// let pool = LazyPool::<String, ()>::new(1, || Ok(String::new()), |_| true)?;
-    /// let one = pool.pull_or_else(String::new);
-    /// let other = pool.pull_or_else(|| "other".to_string());
-    /// assert!(one.is_pooled() && !other.is_pooled());
-    /// assert_eq!(*other, "other");
-    /// # Ok::<(), kundratu_pool::NewError>(())
-    /// ```
     pub fn pull_or_else(&self, value: impl FnOnce() -> T) -> OrElse<LazyReusable<'_, T, E>, T> {
         self.pull()
             .map_or_else(|_| OrElse::Own(value()), OrElse::Pooled)

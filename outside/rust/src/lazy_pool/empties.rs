@@ -36,7 +36,11 @@ impl Empties {
 }
 
 impl Seen {
+    pub(super) fn count(self) -> usize {
+        self.0 as u32 as usize
+    }
+
     pub(super) fn is_none(self) -> bool {
-        self.0 as u32 == 0
+        self.count() == 0
     }
 }

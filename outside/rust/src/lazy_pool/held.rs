@@ -1,5 +1,5 @@
 //! A place of a lazy pool from its pull to its return.
-use super::places::{Any, Closed, Kind, Taken};
+use super::places::{Any, Closed};
 use super::{Entry, LazyPool, LazyReusable, PullError};
 use crate::guard::{AtEnd, Guard, Source};
 use std::{mem, ops::Deref};
@@ -7,7 +7,7 @@ use std::{mem, ops::Deref};
 /// A place that is held. At its end it is free, with the item that lies there or empty.
 pub(super) struct Held<'p, T, E> {
     pool: &'p LazyPool<T, E>,
-    taken: Taken,
+    place: usize,
 }
 
 /// A place, if one is free, or why there is none.
@@ -17,22 +17,22 @@ impl<'p, T, E> Held<'p, T, E> {
     /// Pulls a place with an item. `None` if there was none at one moment.
     #[inline(always)]
     pub(super) fn made(pool: &'p LazyPool<T, E>) -> Option<Self> {
-        let taken = pool.places.pull_made()?;
-        Some(Held { pool, taken })
+        let place = pool.places.pull_made()?;
+        Some(Held { pool, place })
     }
 
     /// Pulls an empty place. `None` if there was none at one moment.
     pub(super) fn empty(pool: &'p LazyPool<T, E>) -> Option<Self> {
-        let taken = pool.places.pull_empty()?;
-        Some(Held { pool, taken })
+        let place = pool.places.pull_empty()?;
+        Some(Held { pool, place })
     }
 
     /// Pulls an item, if the pool has nothing else to mind.
     #[inline(always)]
     pub(super) fn plain(pool: &'p LazyPool<T, E>) -> Option<LazyReusable<'p, T, E>> {
-        let taken = pool.places.pull_plain()?;
+        let place = pool.places.pull_plain()?;
         // SAFETY: the place was pulled just now, and has an item.
-        Some(unsafe { Guard::new(pool, taken.place) })
+        Some(unsafe { Guard::new(pool, place) })
     }
 
     /// Pulls a place, one with an item if it can. `None` if all were in use at one moment, or if
@@ -44,7 +44,7 @@ impl<'p, T, E> Held<'p, T, E> {
     /// Creates the holder of a place that was pulled of this pool just now, if one was.
     pub(super) fn of(pool: &'p LazyPool<T, E>, any: Any) -> Got<'p, T, E> {
         Some(match any? {
-            Ok(taken) => Ok(Held { pool, taken }),
+            Ok(place) => Ok(Held { pool, place }),
             Err(Closed) => Err(PullError::Closed),
         })
     }
@@ -52,15 +52,14 @@ impl<'p, T, E> Held<'p, T, E> {
     /// Borrows what lies at the place.
     pub(super) fn entry(&mut self) -> &mut Entry<T> {
         // SAFETY: nobody else has the place, and this borrow of it is the only one.
-        unsafe { &mut *self.pool.value(self.taken.place) }
+        unsafe { &mut *self.pool.value(self.place) }
     }
 
     /// Changes to a guard. The place has an item.
-    pub(super) fn guard(mut self) -> LazyReusable<'p, T, E> {
-        self.pool.places.note(&mut self.taken, Kind::Made);
+    pub(super) fn guard(self) -> LazyReusable<'p, T, E> {
         let held = mem::ManuallyDrop::new(self);
         // SAFETY: the place was pulled, and is the guard's from now on.
-        unsafe { Guard::new(held.pool, held.taken.place) }
+        unsafe { Guard::new(held.pool, held.place) }
     }
 }
 
@@ -68,10 +67,8 @@ impl<T, E> Drop for Held<'_, T, E> {
     #[inline(always)]
     fn drop(&mut self) {
         let is_made = self.entry().item.is_some();
-        let now = if is_made { Kind::Made } else { Kind::Empty };
-        self.pool.places.note(&mut self.taken, now);
         // SAFETY: the place was pulled, and its only holder ends here.
-        let is_closed = unsafe { self.pool.places.give_back(self.taken) };
+        let is_closed = unsafe { self.pool.places.give_back(self.place, is_made) };
         if is_closed && is_made {
             self.pool.clear(); // it was closed meanwhile
         }
@@ -108,9 +105,7 @@ unsafe impl<T, E> Source for LazyPool<T, E> {
     /// dropped. The place is returned, also if something panics.
     #[inline(always)]
     unsafe fn end(&self, place: usize) {
-        let was = Kind::Made;
-        let (pool, taken) = (self, Taken { place, was });
-        let mut held = Held { pool, taken };
+        let mut held = Held { pool: self, place };
         let entry = held.entry();
         let is_plain = self.places.is_plain();
         let may_stay = is_plain || (!self.is_closed() && !self.times.is_past(entry));

@@ -3,34 +3,15 @@ use super::empties::Empties;
 use super::queue::{Queue, Wake};
 use super::signs::{Order, Seen, Signs};
 use super::waiters::{Limit, Waiters};
-use crate::{fixed::Fixed, pool::NewError, slots::filled, sys::PAGE};
-use std::sync::atomic::{AtomicBool, AtomicUsize, Ordering::Relaxed};
-
-/// What lies at a place: nothing, or an item.
-#[derive(Clone, Copy, Debug, PartialEq)]
-pub(super) enum Kind {
-    Empty,
-    Made,
-}
-
-/// A place that was pulled, and what lay there then.
-#[derive(Clone, Copy, Debug, PartialEq)]
-pub(super) struct Taken {
-    pub(super) place: usize,
-    pub(super) was: Kind,
-}
+use crate::{fixed::Fixed, pool::NewError};
+use std::iter;
 
 /// The pool is closed.
 #[derive(Debug, PartialEq)]
 pub(super) struct Closed;
 
 /// A place, if one is free, or that the pool is closed.
-pub(super) type Any = Option<Result<Taken, Closed>>;
-
-/// Which places of a page are in use, on a cache line of their own.
-#[derive(Default)]
-#[repr(align(64))]
-struct InUse([AtomicBool; PAGE]);
+pub(super) type Any = Option<Result<usize, Closed>>;
 
 /// The empty places and those with an item are two pools over the same numbers. Each place is held
 /// in at least one of them, and who pulled it from either has it alone.
@@ -39,9 +20,6 @@ pub(super) struct Places {
     made: Fixed,
     /// How many are empty and free. One is counted off before it is pulled.
     empties: Empties,
-    in_use: Vec<InUse>,
-    /// How many have an item.
-    made_count: AtomicUsize,
     order: Order,
     /// The threads that wait, where any may come first.
     waiters: Waiters,
@@ -55,15 +33,12 @@ impl Places {
     ///
     /// `NoItems` if there are none, or `Memory`, also if they are more than can be counted.
     pub(super) fn new(places: usize, order: Order) -> Result<Places, NewError> {
-        let in_use = filled(places.div_ceil(PAGE), InUse::default)?;
         let [empty, made] = [Fixed::new(places)?, Fixed::new(places)?];
         while made.pull().is_some() {} // no item is made yet
         Ok(Places {
             empty,
             made,
             empties: Empties::new(places).ok_or(NewError::Memory)?,
-            in_use,
-            made_count: AtomicUsize::new(0),
             order,
             waiters: Waiters::default(),
             queue: Queue::default(),
@@ -75,15 +50,15 @@ impl Places {
         self.made.places()
     }
 
-    /// Returns how many have an item.
+    /// Returns how many have an item, or are to have one.
     pub(super) fn made(&self) -> usize {
-        self.made_count.load(Relaxed)
+        self.count() - self.empties.load().count()
     }
 
-    /// Counts those that are in use, one after the other.
+    /// Returns how many are in use: pulled of one kind, and not returned as either.
     pub(super) fn in_use(&self) -> usize {
-        let all = self.in_use.iter().flat_map(|page| &page.0);
-        all.filter(|in_use| in_use.load(Relaxed)).count()
+        let pulled = self.made.pulled().wrapping_add(self.empty.pulled());
+        pulled.wrapping_sub(self.count())
     }
 
     pub(super) fn waiting(&self) -> usize {
@@ -105,39 +80,25 @@ impl Places {
     }
 
     /// Pulls a place with an item. `None` if there was none at one moment.
-    #[inline(always)]
-    pub(super) fn pull_made(&self) -> Option<Taken> {
-        self.made.pull().map(|place| self.taken(place, Kind::Made))
+    pub(super) fn pull_made(&self) -> Option<usize> {
+        self.made.pull()
     }
 
     /// Pulls an empty place. `None` if there was none at one moment.
-    pub(super) fn pull_empty(&self) -> Option<Taken> {
-        if !self.empties.take() {
-            return None;
-        }
-        loop {
-            // One is free, since it was counted. A look that misses it is made again.
-            if let Some(place) = self.empty.pull() {
-                return Some(self.taken(place, Kind::Empty));
-            }
-        }
-    }
-
-    #[inline(always)]
-    fn taken(&self, place: usize, was: Kind) -> Taken {
-        self.is_in_use(place).store(true, Relaxed);
-        Taken { place, was }
-    }
-
-    fn is_in_use(&self, place: usize) -> &AtomicBool {
-        &self.in_use[place / PAGE].0[place % PAGE]
+    pub(super) fn pull_empty(&self) -> Option<usize> {
+        // One is free if it was counted. A look that misses it is made again.
+        let looks = || iter::repeat_with(|| self.empty.pull());
+        self.empties
+            .take()
+            .then(|| looks().flatten().next())
+            .flatten()
     }
 
     /// Pulls a place with an item, if the pool has nothing else to mind.
     #[inline(always)]
-    pub(super) fn pull_plain(&self) -> Option<Taken> {
+    pub(super) fn pull_plain(&self) -> Option<usize> {
         let stops = self.signs().load().stops_pull(self.order);
-        (!stops).then(|| self.pull_made()).flatten()
+        (!stops).then(|| self.made.pull()).flatten()
     }
 
     /// Says that the pool minds more than a reset.
@@ -155,8 +116,8 @@ impl Places {
     /// others come first.
     pub(super) fn any(&self) -> Any {
         let may_pull = self.signs().load().only_minds(self.order);
-        if let Some(taken) = may_pull.then(|| self.pull_made()).flatten() {
-            return Some(Ok(taken));
+        if let Some(place) = may_pull.then(|| self.pull_made()).flatten() {
+            return Some(Ok(place));
         }
         if self.others_come_first() {
             return None;
@@ -174,8 +135,9 @@ impl Places {
         self.order == Order::FAIR
     }
 
-    /// Pulls a place, one with an item if it can. It is refused if no place with an item was free, at a moment at
-    /// which no empty one was: there was none before and after it, and none came between.
+    /// Pulls a place, one with an item if it can. It is refused if no place with an item was free,
+    /// at a moment at which no empty one was: there was none before and after it, and none came
+    /// between.
     #[cold]
     fn any_later(&self) -> Any {
         loop {
@@ -184,12 +146,12 @@ impl Places {
                 return Some(Err(Closed));
             }
             let is_none_made = signs.says_none_made() && !empties.is_none();
-            if let Some(taken) = (!is_none_made).then(|| self.pull_made()).flatten() {
-                return Some(Ok(taken));
+            if let Some(place) = (!is_none_made).then(|| self.pull_made()).flatten() {
+                return Some(Ok(place));
             }
-            if let Some(taken) = self.pull_empty() {
+            if let Some(place) = self.pull_empty() {
                 self.signs().none_found(signs);
-                return Some(Ok(taken));
+                return Some(Ok(place));
             }
             if empties.is_none() && empties == self.empties.load() {
                 return None;
@@ -221,7 +183,7 @@ impl Places {
     }
 
     /// Leaves the queue. Returns the place that was handed to this ticket.
-    pub(super) fn leave_queue(&self, ticket: u64) -> Option<Taken> {
+    pub(super) fn leave_queue(&self, ticket: u64) -> Option<usize> {
         self.queue.leave(self.signs(), ticket)
     }
 
@@ -230,42 +192,29 @@ impl Places {
         while self.queue.hand(self.signs(), || self.any_later()) {}
     }
 
-    /// Notes that an item lies at a place, or that none does.
-    pub(super) fn note(&self, taken: &mut Taken, now: Kind) {
-        if taken.was != now {
-            match now {
-                Kind::Made => self.made_count.fetch_add(1, Relaxed),
-                Kind::Empty => self.made_count.fetch_sub(1, Relaxed),
-            };
-            taken.was = now;
-        }
-    }
-
     /// Returns a place, to which nobody comes from now on, and tells those that wait. Returns
     /// whether the pool is closed.
     ///
     /// # Safety
     ///
-    /// It was pulled here, and is returned once.
+    /// It was pulled here, and is returned once. It has an item, or has none, as this says.
     #[inline(always)]
-    pub(super) unsafe fn give_back(&self, taken: Taken) -> bool {
-        self.is_in_use(taken.place).store(false, Relaxed);
-        match taken.was {
-            // SAFETY: who pulled a place of one kind holds it in both.
-            Kind::Made => unsafe { self.made.give_back(taken.place) },
-            Kind::Empty => {
-                // SAFETY: as above.
-                unsafe { self.empty.give_back(taken.place) };
-                self.empties.put();
-            }
+    pub(super) unsafe fn give_back(&self, place: usize, is_made: bool) -> bool {
+        if is_made {
+            // SAFETY: who pulled a place as empty or as made holds it as both.
+            unsafe { self.made.give_back(place) };
+        } else {
+            // SAFETY: as above.
+            unsafe { self.empty.give_back(place) };
+            self.empties.put();
         }
         let signs = self.signs().load_after();
-        !signs.is_clear() && self.tell(signs, taken.was)
+        !signs.is_clear() && self.tell(signs, is_made)
     }
 
     #[cold]
-    fn tell(&self, signs: Seen, came: Kind) -> bool {
-        if came == Kind::Made {
+    fn tell(&self, signs: Seen, is_made: bool) -> bool {
+        if is_made {
             self.signs().made_came();
         }
         if self.queue.is_awaited() {

@@ -2,7 +2,7 @@
 //!
 //! Who comes gets a ticket. A place that is free is handed to the first one without a place, under
 //! the lock, and is in use from then on. Wakers are called after the lock.
-use super::places::{Any, Closed, Taken};
+use super::places::{Any, Closed};
 use super::signs::Signs;
 use std::collections::VecDeque;
 use std::sync::atomic::{AtomicU64, AtomicUsize, Ordering::SeqCst};
@@ -44,7 +44,7 @@ struct Line {
 
 struct Waiter {
     ticket: u64,
-    place: Option<Taken>,
+    place: Option<usize>,
     wake: Option<Wake>,
 }
 
@@ -143,7 +143,7 @@ impl Queue {
     }
 
     /// Leaves the queue. Returns the place that was handed to this ticket.
-    pub(super) fn leave(&self, signs: &Signs, ticket: u64) -> Option<Taken> {
+    pub(super) fn leave(&self, signs: &Signs, ticket: u64) -> Option<usize> {
         let waiter = {
             let mut line = self.lock();
             let waiter = line.remove(ticket)?;
