@@ -198,7 +198,7 @@ fn first_pulls() {
         let mut least = [f64::INFINITY; 3];
         for _ in 0..5 {
             let (pool, mut held) = (lazy(items), Vec::with_capacity(items));
-            let mut pulls = |held: &mut Vec<_>| {
+            let pulls = |held: &mut Vec<_>| {
                 let begun = Instant::now();
                 held.extend((0..items).map(|_| pool.pull().expect("one is free")));
                 begun.elapsed()

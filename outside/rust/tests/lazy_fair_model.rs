@@ -315,6 +315,8 @@ fn places_go_to_those_that_wait_in_their_order() {
         (1, [1, 1, 0]),
         (1, [1, 0, 1]),
         (2, [1, 0, 0]),
+        (2, [0, 1, 0]),
+        (2, [0, 0, 2]),
     ]);
 }
 
@@ -326,6 +328,8 @@ fn places_go_to_those_that_wait_in_their_order_in_larger_cases() {
         (1, [2, 0, 1]),
         (2, [2, 0, 0]),
         (2, [1, 1, 0]),
+        (1, [3, 0, 0]),
+        (1, [1, 1, 1]),
     ]);
 }
 

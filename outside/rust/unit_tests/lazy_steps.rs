@@ -122,3 +122,33 @@ fn a_comer_at_any_step_of_a_return_does_not_pass_the_queue() {
         assert!(woken.0.load(SeqCst), "after {step} steps");
     }
 }
+
+/// Of two places one is in use. At any step of `fill` or `attach` another thread pulls the other one,
+/// or returns its item and makes one there. No place has two items, and none is lost.
+#[test]
+fn what_comes_to_the_pool_beside_a_pull_has_a_place_of_its_own() {
+    let _alone = alone();
+    for step in 0..STEPS {
+        for attaches in [false, true] {
+            for finds_empty in [false, true] {
+                let (pool, other) = held(2, false);
+                let finds = move || match finds_empty {
+                    true => Held::empty(pool),
+                    false => Held::any(pool)?.ok(),
+                };
+                let moves = [(step, goes_on(&other, finds))];
+                let came = meanwhile(moves, || match attaches {
+                    true => pool.attach(7).is_ok(),
+                    false => pool.fill(2) == Ok(()),
+                });
+                let has_one = other.lock().expect("no panic").take().is_some();
+                assert!(came || has_one, "after {step} steps neither has a place");
+                let status = pool.status();
+                assert_eq!(status.in_use, 0, "after {step} steps");
+                let all: Vec<_> = (0..2).map(|_| pool.pull().expect("it is free")).collect();
+                assert_ne!(all[0].place(), all[1].place());
+                assert!(pool.pull().is_err());
+            }
+        }
+    }
+}

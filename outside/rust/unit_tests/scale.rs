@@ -49,7 +49,8 @@ fn a_new_item_takes_as_many_steps_however_many_items_and_threads_there_are() {
     // The thread has its slots, and found what another one returned.
     let item = grown.pull_owned();
     in_a_thread(move || drop(item));
-    (grow(), make());
+    grow();
+    make();
     let few = [steps_of_a_making(grow), steps_of_a_making(make)];
     let all_come = Barrier::new(20);
     thread::scope(|scope| {
