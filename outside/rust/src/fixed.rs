@@ -186,7 +186,7 @@ impl Fixed {
                 Ok(place) => return Some(place),
                 Err(count) => count,
             };
-            if let Some(place) = self.library.0.pull(handle, 0) {
+            if let Some(place) = self.library.0.pull_again(handle, 0) {
                 return Some(place);
             }
             before = self.take_kept();
@@ -309,7 +309,7 @@ impl Way {
     /// Pulls a place of the library.
     #[inline(always)]
     fn pull(&mut self, library: &Library) -> Option<usize> {
-        let place = library.pull(&mut self.handle, self.page)?;
+        let place = library.pull_once(&mut self.handle, self.page)?;
         if place / PAGE != self.page || self.left <= 1 {
             self.go_on(place / PAGE, library.places().div_ceil(PAGE));
         }

@@ -77,16 +77,23 @@ impl Library {
     /// this page. `None` if at one moment all were out, but those whose return wasn't over.
     #[inline(always)]
     pub(crate) fn pull(&self, own: &mut Option<Handle>, page: usize) -> Option<usize> {
+        let place = self.pull_once(own, page);
+        place.or_else(|| self.pull_again(own, page))
+    }
+
+    /// Pulls a place as `pull` does. If there is none, it doesn't say so.
+    #[inline(always)]
+    pub(crate) fn pull_once(&self, own: &mut Option<Handle>, page: usize) -> Option<usize> {
+        let look = || self.look(own, page);
+        self.may_have_some().then(look).flatten()
+    }
+
+    /// Pulls a place as `pull` does. If there is none, it says so.
+    #[inline(never)]
+    pub(crate) fn pull_again(&self, own: &mut Option<Handle>, page: usize) -> Option<usize> {
         if !self.may_have_some() {
             return None;
         }
-        let place = self.look(own, page);
-        place.or_else(|| self.look_again(own, page))
-    }
-
-    /// Pulls a place that was returned since a look found none. If there is none, it says so.
-    #[inline(never)]
-    fn look_again(&self, own: &mut Option<Handle>, page: usize) -> Option<usize> {
         let ours = mark(own);
         self.returned.store(ours, SeqCst);
         let place = self.look(own, page);
