@@ -154,7 +154,7 @@ pub(crate) struct PulledValue<T> {
 }
 
 /// A value with the room for its return. Its drop resets the value, waits for the pool's lock and
-/// returns the value to the pool. No other call of it waits.
+/// returns the value to the pool. So does `give_back`; no other call of it waits.
 ///
 /// In a clause it is the pool, the value, and what is known of the pool's history up to the pull or
 /// the attachment.
