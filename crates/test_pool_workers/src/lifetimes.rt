@@ -1,5 +1,5 @@
 //! What a worker and its items live in. The compiler refuses other bodies
-//! (`ci/refused_by_compiler`).
+//! (`wrong_bodies`).
 use crate::assert_equal::assert_equal;
 use fixed_pools::FixedObjectPool;
 use pool_parts::PullError;
