@@ -1,4 +1,6 @@
 //! The answers of the exported calls, as numbers. The header has them as an enumeration of C.
+//!
+//! Both change together.
 
 /// The call was done.
 pub const DONE: u32 = 0;

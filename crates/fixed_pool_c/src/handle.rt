@@ -1,4 +1,7 @@
 //! A handle as C has it.
+//!
+//! C has the pointer alone, as `kdr_handle`: the header changes with its layout. The prover tells a
+//! change of what lies there.
 ghost use Rattle.std.specs.Prelude.{◌≡◌, Option, Some, None, MatchOption};
 ghost use Rattle.fixed_pool_c.specs.HandleOwns.{handle_owns};
 ghost use Rattle.fixed_pool_c.specs.Shows.{final_note_of};

@@ -1,5 +1,8 @@
 //! A place by itself, as C has it: a number and a tag, and the permit for that place of its pool as
 //! a ghost.
+//!
+//! C has the number and the tag, as `kdr_place`: the header changes with their layout. The prover
+//! tells a change of the permit.
 ghost use Rattle.std.specs.Prelude.{◌≡◌, ◌≢◌, ◌<◌, ◌≤◌, ◌+◌, ◌^◌, ⊤, Option, Some, None, IfSome, IfOk, IfErr};
 ghost use Rattle.std.proofs.Props.{props};
 ghost use Rattle.pool_parts.specs.declared.page.holding.Holding.{Holding as HoldingShown};

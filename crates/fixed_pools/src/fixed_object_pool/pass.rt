@@ -1,5 +1,8 @@
 //! How a pull passes over the words of a pool, each read once and each bit that was set in it tried
 //! once, and how it goes round until it has an item or finds that no item was free at one moment.
+//!
+//! That no item was free rests on which words are read, and in which order, so the prover tells a
+//! change.
 ghost use Rattle.std.specs.Prelude.{◌≡◌, ◌+◌, ◌-◌, ◌*◌, ◌<◌, ◌≤◌, ℕ, MatchOption, MatchResult};
 ghost use Rattle.std.specs.Int.{bit_at};
 

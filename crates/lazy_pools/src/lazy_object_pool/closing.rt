@@ -1,4 +1,7 @@
 //! How a lazy pool drops the items that it keeps, and how it is closed.
+//!
+//! No contract says that a closed pool keeps nothing: `ci/waiting_model` explores these steps, and
+//! knows their lines.
 ghost use Rattle.std.specs.Prelude.{◌<◌, IfSome};
 
 use super::LazyObjectPool;

@@ -1,4 +1,6 @@
 //! How many items a lazy pool has, and how it makes them beforehand.
+//!
+//! Clauses bound the counts. Only `test_lazy_pools` tells a wrong one.
 ghost use Rattle.std.specs.Prelude.{◌<◌, ◌≤◌, None, IfErr};
 
 use super::LazyObjectPool;

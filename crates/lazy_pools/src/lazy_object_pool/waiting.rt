@@ -1,4 +1,7 @@
 //! Pulls that wait for a place to be returned.
+//!
+//! No contract says that who waits is woken: `ci/waiting_model` explores these steps, and knows
+//! their lines.
 ghost use Rattle.std.specs.Prelude.{◌≡◌, ⊤, None, IfOk, IfErr};
 ghost use Rattle.std.specs.Arc.{arc_value};
 

@@ -2,6 +2,9 @@
 //!
 //! Row `b` has the links to the pages `2^b` to `2^(b+1) - 1`, and is made when the first of them is
 //! needed. Beside its link each page has a hint, which is set if the page may have a free item.
+//!
+//! The link to a page keeps its place for good, since page numbers and notes name that. The prover
+//! tells another place.
 ghost use Rattle.std.specs.Prelude.{◌≡◌, ◌^◌, ◌<◌, length, IfOk, IfErr, IfSome, ⊤};
 ghost use Rattle.once_cell.specs.Once.{cell_name};
 ghost use Rattle.pool_parts.specs.Answers.{Refuses};

@@ -1,5 +1,7 @@
 //! Hints: bits that are set for pages that may have a free item. They save steps and promise
 //! nothing.
+//!
+//! So no clause tells hints that are lost. If none is set, `ci/two_sizes` tells.
 ghost use Rattle.std.specs.Prelude.{◌≤◌, ◌<◌, IfSome};
 
 use std::sync::atomic::AtomicU64;

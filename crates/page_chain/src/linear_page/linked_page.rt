@@ -1,6 +1,8 @@
 //! A page of a chain, with the link to the next one.
 //!
 //! A link is set once, only in `get_or_create_next_as`, for a caller that has found its page full.
+//!
+//! The prover asks each caller for the evidence of that.
 ghost use Rattle.std.specs.Prelude.{◌≡◌, ◌+◌, ◌^◌, ◌<◌, Option, None, IfSome, IfNone, IfOk, IfErr, ⊤};
 ghost use Rattle.std.specs.Arc.{arc_value};
 ghost use Rattle.once_cell.specs.Once.{cell_name};

@@ -1,4 +1,7 @@
 //! What a pull has once it has seen each item of a page in use.
+//!
+//! Only a pull makes such evidence, and it ends with the pull's pass: `ci/compiler_refuses` tells a
+//! change.
 use super::slot::PageSlot;
 use super::user_view::UserSeat;
 use crate::clean::Clean;

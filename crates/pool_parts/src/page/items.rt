@@ -1,5 +1,8 @@
 //! The items of a page, or of a fixed pool: words with a bit for each item, and a place for each
 //! item's value.
+//!
+//! Each bit that was read as set is tried once, lowest first: the evidence of a full page and the
+//! bounds on steps rest on it, so the prover tells a change.
 ghost use Rattle.std.specs.Prelude.{◌≡◌, ◌+◌, ◌*◌, ◌/◌, ◌^◌, ◌<◌, ◌≤◌, ℕ, [], None, Some, IfOk, IfErr, MatchOption, false, length, All, IsSomeAnd, ⊤};
 ghost use Rattle.pool_parts.specs.declared.pull_error.PullError.TheVariants.{Memory};
 ghost use Rattle.std.specs.Int.{bit_at};

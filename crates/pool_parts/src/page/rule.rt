@@ -1,6 +1,8 @@
 //! What holds of a page between any two steps, and the kinds of step that keep it.
 //!
 //! These types are for the proofs alone.
+//!
+//! A rule that says less lets wrong bodies pass, which the must-fail edits of this crate tell.
 
 use super::user_view::UserView;
 use crate::clean::Clean;

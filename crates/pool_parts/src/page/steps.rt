@@ -1,4 +1,7 @@
 //! The steps on the words of a page or of a fixed pool, and the move of a value out and back.
+//!
+//! A value lies in its place while its bit is set, and one step changes a bit. The prover tells
+//! another step or order, by the page's rule; `ci/stopped` stops threads between the steps.
 ghost use Rattle.std.specs.Prelude.{◌≡◌, ◌<◌, ◌≤◌, [], ◌∷◌, Some, None, MatchOption, false, ◌*◌, ◌+◌};
 ghost use Rattle.pool_parts.specs.declared.page.history.Operation.TheVariants.{Return};
 

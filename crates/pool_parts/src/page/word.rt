@@ -1,5 +1,7 @@
 //! The pure steps on the word of a page: it has a bit for each item, which is set if the item is
 //! free, and may have a count above them.
+//!
+//! The clauses say each result exactly, so the prover tells a change.
 ghost use Rattle.std.specs.Prelude.{◌≡◌, ℕ, ◌==◌, ◌-◌, ◌^◌, ◌<◌, ◌↔◌, IsTrue, IsNone, IfSome, bit_and, bit_or, ◌/◌};
 ghost use Rattle.std.specs.Int.{w32, bit_at, bit_not};
 ghost use Rattle.pool_parts.specs.Word.{IsLeastBit, SetsBit, ClearsBit};

@@ -1,3 +1,5 @@
+-- That the step which clears a bit keeps the page's rule, and that the user takes the item's value
+-- if the bit was set, or has found it in use.
 use Rattle.std.proofs.Common.{◌∷◌, arith, rules, sym, ap, ◌∙◌, Some, ◌+◌, ◌*◌}
 use Rattle.std.proofs.lemmas.Nat.Bits.{shr_and_one}
 use Rattle.atomic_table.specs.Table.{rest}
