@@ -67,7 +67,7 @@ struct model {
     unsigned long kept_pulls, pool_pulls, refusals, beyond;
 };
 
-static unsigned long drawn = 88172645463325252ul;
+static uint64_t drawn = 88172645463325252u;
 
 static size_t draw(size_t below) {
     drawn ^= drawn << 13;
