@@ -1,7 +1,7 @@
 //! The items of a fixed pool: a word for each page, and what a pull and a return do there.
 //!
 //! The prover tells a change of words or values. No clause speaks of the hint, which `ci/two_sizes`
-//! measures, nor of the pages of `near`, which `test_lockfree_object_pool` tests.
+//! measures, nor of the pages of `near`, which `test_fixed_pools` tests.
 ghost use Rattle.std.specs.Prelude.{◌≡◌, ◌+◌, ◌-◌, ◌*◌, ◌/◌, ◌^◌, ◌<◌, ◌≤◌, [], ◌∷◌, Option, None, Some, IfOk, IfErr, false, vec_len, ⊤};
 ghost use Rattle.pool_parts.specs.PageItems.{items_view};
 ghost use Rattle.pool_parts.specs.PageRule.{IsAllFree};
