@@ -4,10 +4,6 @@ use kundratu_pool::LinearObjectPool;
 
 fn main() {
     let pool = LinearObjectPool::<u32>::new(Default::default, |number| *number = 0);
-    let mut item = pool.pull();
-    *item = 5;
-    let work = *item * 5;
-    drop(item);
-    assert_eq!(*pool.pull(), 0);
-    println!("the work was {work}, and the item came back as 0");
+    *pool.pull() = 5; // it is returned here, and reset
+    println!("the item came back as {}", *pool.pull());
 }
