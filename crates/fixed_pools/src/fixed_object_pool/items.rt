@@ -1,6 +1,6 @@
 //! The items of a fixed pool: a word for each page, and what a pull and a return do there.
 //!
-//! The prover tells a change of words or values. No clause speaks of the hint, which `ci/two_sizes`
+//! The prover tells a change of words or values. No clause speaks of the hints, which `ci/two_sizes`
 //! measures, nor of the pages of `near`, which `test_fixed_pools` tests.
 ghost use Rattle.std.specs.Prelude.{◌≡◌, ◌+◌, ◌-◌, ◌*◌, ◌/◌, ◌^◌, ◌<◌, ◌≤◌, [], ◌∷◌, Option, None, Some, IfOk, IfErr, false, vec_len, ⊤};
 ghost use Rattle.pool_parts.specs.PageItems.{items_view};
@@ -56,6 +56,9 @@ pub struct FixedItems<T, K: Clean<T>> {
     pub(super) order: Order,
     /// The page at which the next pull starts. It promises nothing.
     hint: AtomicU64,
+    /// The page below which each was seen full, in a pool that asks lower pages first. It promises
+    /// nothing.
+    lowest: AtomicU64,
     /// How many pages were named by `next_own_page`. It promises nothing.
     own_pages: AtomicU64,
     ghost counted: { count ≡ (items_view shared).identity.slots },
@@ -103,6 +106,7 @@ impl<T, K: Clean<T>> FixedItems<T, K> {
             pages: words.len(),
             order,
             hint: AtomicU64::new(0),
+            lowest: AtomicU64::new(0),
             own_pages: AtomicU64::new(0),
         })
     }
@@ -155,6 +159,40 @@ impl<T, K: Clean<T>> FixedItems<T, K> {
     pub(super) fn set_hint(&self, page: usize) {
         if self.hint.load(SeqCst) != page as u64 {
             self.hint.store(page as u64, SeqCst);
+        }
+    }
+
+    /// Returns the page at which a pull begins that asks lower pages first: those below it were
+    /// seen full.
+    pub(super) fn lowest(&self) -> usize
+        ensures { result < (pool_of self.now).words }
+    {
+        let lowest = self.lowest.load(SeqCst) as usize;
+        if lowest < self.pages { lowest } else { 0 }
+    }
+
+    /// Says that a page may have a free item.
+    fn lower(&self, page: usize) {
+        if (page as u64) < self.lowest.load(SeqCst) {
+            self.lowest.fetch_min(page as u64, SeqCst);
+        }
+    }
+
+    /// Notes where an item was found by a pull that began at page `lowest`, and found those between
+    /// full. It looks at these again: an item may have come back before they were passed by.
+    pub(super) fn found_at(&self, lowest: usize, page: usize) {
+        self.lower(page);
+        let seen = self
+            .lowest
+            .compare_exchange(lowest as u64, page as u64, SeqCst, SeqCst);
+        if seen.is_err() {
+            return;
+        }
+        for passed in lowest..page.min(self.pages) {
+            if self.shared.look(passed).0 != 0 {
+                self.lower(passed);
+                return;
+            }
         }
     }
 
@@ -300,6 +338,7 @@ impl<T, K: Clean<T>> FixedItems<T, K> {
         let (seat, was_full) = self.shared.give(holding, value, 1);
         if was_full {
             self.set_hint(page);
+            self.lower(page);
         }
         seat
     }

@@ -5,8 +5,8 @@
 pub enum Order {
     /// Those behind it, and then those before it.
     Round,
-    /// Those before it, and then those behind it: a page of which nobody has had an item is asked
-    /// last.
+    /// The lowest that may have a free item, those behind that, and then those before it: a page
+    /// of which nobody has had an item is asked last.
     LowFirst,
     /// The hinted one, then those behind that, and then those before it.
     Hinted,

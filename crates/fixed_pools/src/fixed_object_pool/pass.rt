@@ -143,9 +143,10 @@ impl<T, K: Clean<T>> FixedItems<T, K> {
             PassesOver (is_beside 0 (pool_of self.now).words start) returns seat.old.me
             seat.new.me) }
     {
-        let next = match order.unwrap_or(self.order) {
+        let order = order.unwrap_or(self.order);
+        let next = match order {
             Order::Round => start + 1,
-            Order::LowFirst => 0,
+            Order::LowFirst => self.lowest(),
             Order::Hinted => self.hinted(),
         };
         let taken = match self.scan(seat, next, self.pages, start) {
@@ -155,7 +156,11 @@ impl<T, K: Clean<T>> FixedItems<T, K> {
                 Err(returns) => return Err(behind.wrapping_add(returns)),
             },
         };
-        self.set_hint(taken.number / PAGE_ITEMS);
+        let page = taken.number / PAGE_ITEMS;
+        self.set_hint(page);
+        if let Order::LowFirst = order {
+            self.found_at(next, page);
+        }
         Ok(taken)
     }
 

@@ -8,12 +8,12 @@ use Rattle.fixed_pools.proofs.fixed_object_pool.items.FixedItems.take_beside.Goa
 pub returns-in-Err-scan-clause-outcome : goal.returns-in-Err-scan-clause-outcome
 returns-in-Err-scan-clause-outcome g c =
     let items = c.args.self.now in
-    let next : ℕ = c.match-unwrap_or.next in
+    let next : ℕ = c.match-order.next in
     let words : ℕ = items.shared.table.shared.table_id.words in
     let in_pool = c.requires.in_pool in
-    let within : next ≤ words = elim c.match-unwrap_or.branch [
+    let within : next ≤ words = elim c.match-order.branch [
       | in-Round w ↦ omega (arith, w.next-is, in_pool)
-      | in-LowFirst w ↦ omega (arith, w.next-is)
+      | in-LowFirst w ↦ omega (arith, w.next-is, w.lowest-next.ensures)
       | in-Hinted w ↦ omega (arith, w.next-is, w.hinted-next.ensures)
     ] in
     let behind = subst (λ pages. PassesOver (is_beside next pages c.args.start) c.in-Err.behind c.args.seat.now.me
