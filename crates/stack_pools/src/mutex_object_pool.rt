@@ -40,7 +40,11 @@ pub type MutexObjectPool<T, I, R, K = AnyValue> = StackObjectPool<
 /// ```rust
 /// *pool.pull(&rt)? = 5; // its drop keeps it
 /// ```
-pub type MutexReusable<'p, T, I, R, K, W> = StackReusable<T, &'p MutexObjectPool<T, I, R, K>, W>;
+pub type MutexReusable<'p, T, I, R, W, K = AnyValue> = StackReusable<
+    T,
+    &'p MutexObjectPool<T, I, R, K>,
+    W,
+>;
 
 /// A value that was pulled from a mutex pool or attached to it, with an owner of it.
 ///
@@ -53,7 +57,11 @@ pub type MutexReusable<'p, T, I, R, K, W> = StackReusable<T, &'p MutexObjectPool
 /// let owner = Arc::try_clone(&pool)?;
 /// let item = MutexOwnedReusable::new(&rt, owner, 6)?;
 /// ```
-pub type MutexOwnedReusable<T, I, R, K, W> = StackReusable<T, Arc<MutexObjectPool<T, I, R, K>>, W>;
+pub type MutexOwnedReusable<T, I, R, W, K = AnyValue> = StackReusable<
+    T,
+    Arc<MutexObjectPool<T, I, R, K>>,
+    W,
+>;
 
 impl<T: Drop, I: Init<T, K>, R: Reset<T, K>, K: Clean<T>> MutexObjectPool<T, I, R, K> {
     ghost use Rattle.stack_pools.specs.StackPool.{stack_init, stack_reset};

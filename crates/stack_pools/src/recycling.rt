@@ -27,7 +27,7 @@ pub type MutexPool<T> = MutexObjectPool<T, Recycler, Recycler, Recycler>;
 /// let pool = MutexPool::<Vec<u8>>::with_recycler(alloc);
 /// assert_eq!(rt; pool.pull(&rt)?.len(), 0);
 /// ```
-pub type MutexPoolReusable<'p, T, W> = MutexReusable<'p, T, Recycler, Recycler, Recycler, W>;
+pub type MutexPoolReusable<'p, T, W> = MutexReusable<'p, T, Recycler, Recycler, W, Recycler>;
 
 /// A value that was pulled from a [`MutexPool`] or attached to it, with an owner of it.
 ///
@@ -37,7 +37,7 @@ pub type MutexPoolReusable<'p, T, W> = MutexReusable<'p, T, Recycler, Recycler, 
 /// let pool = Arc::new(alloc, pool)?;
 /// let item = pool.pull_owned(&rt)?; // may go to any thread
 /// ```
-pub type MutexPoolOwnedReusable<T, W> = MutexOwnedReusable<T, Recycler, Recycler, Recycler, W>;
+pub type MutexPoolOwnedReusable<T, W> = MutexOwnedReusable<T, Recycler, Recycler, W, Recycler>;
 
 impl<T: Recyclable> MutexPool<T> {
     /// Creates a pool that keeps nothing yet. It takes no memory.
@@ -71,7 +71,7 @@ pub type SpinLockPool<T> = SpinLockObjectPool<T, Recycler, Recycler, Recycler>;
 /// let pool = SpinLockPool::<Vec<u8>>::with_recycler(alloc)?;
 /// assert_eq!(rt; pool.pull(&rt)?.len(), 0);
 /// ```
-pub type SpinLockPoolReusable<'p, T, W> = SpinLockReusable<'p, T, Recycler, Recycler, Recycler, W>;
+pub type SpinLockPoolReusable<'p, T, W> = SpinLockReusable<'p, T, Recycler, Recycler, W, Recycler>;
 
 /// A value that was pulled from a [`SpinLockPool`] or attached to it, with an owner of it.
 ///
@@ -85,8 +85,8 @@ pub type SpinLockPoolOwnedReusable<T, W> = SpinLockOwnedReusable<
     T,
     Recycler,
     Recycler,
-    Recycler,
     W,
+    Recycler,
 >;
 
 impl<T: Recyclable> SpinLockPool<T> {

@@ -44,7 +44,7 @@ pub type SpinLockObjectPool<T, I, R, K = AnyValue> = StackObjectPool<
 /// ```rust
 /// let item = SpinLockReusable::new(&rt, &pool, 5)?; // its drop gives the pool a value
 /// ```
-pub type SpinLockReusable<'p, T, I, R, K, W> = StackReusable<
+pub type SpinLockReusable<'p, T, I, R, W, K = AnyValue> = StackReusable<
     T,
     &'p SpinLockObjectPool<T, I, R, K>,
     W,
@@ -61,7 +61,7 @@ pub type SpinLockReusable<'p, T, I, R, K, W> = StackReusable<
 /// let pool = Arc::new(alloc, pool)?;
 /// let item = pool.pull_owned(&rt)?; // may go to any thread
 /// ```
-pub type SpinLockOwnedReusable<T, I, R, K, W> = StackReusable<
+pub type SpinLockOwnedReusable<T, I, R, W, K = AnyValue> = StackReusable<
     T,
     Arc<SpinLockObjectPool<T, I, R, K>>,
     W,

@@ -45,12 +45,12 @@ fn items_sent<
     W: Wait + Copy + Send,
 >(
     mutex: (
-        &MutexReusable<'_, T, I, R, K, W>,
-        &MutexOwnedReusable<T, I, R, K, W>,
+        &MutexReusable<'_, T, I, R, W, K>,
+        &MutexOwnedReusable<T, I, R, W, K>,
     ),
     spin_lock: (
-        &SpinLockReusable<'_, T, I, R, K, W>,
-        &SpinLockOwnedReusable<T, I, R, K, W>,
+        &SpinLockReusable<'_, T, I, R, W, K>,
+        &SpinLockOwnedReusable<T, I, R, W, K>,
     ),
 ) {
     sent(mutex.0);
@@ -90,12 +90,12 @@ fn items_shared<
     W: Wait + Copy + Send + Sync,
 >(
     mutex: (
-        &MutexReusable<'_, T, I, R, K, W>,
-        &MutexOwnedReusable<T, I, R, K, W>,
+        &MutexReusable<'_, T, I, R, W, K>,
+        &MutexOwnedReusable<T, I, R, W, K>,
     ),
     spin_lock: (
-        &SpinLockReusable<'_, T, I, R, K, W>,
-        &SpinLockOwnedReusable<T, I, R, K, W>,
+        &SpinLockReusable<'_, T, I, R, W, K>,
+        &SpinLockOwnedReusable<T, I, R, W, K>,
     ),
 ) {
     borrowed_shared(mutex.0);

@@ -116,10 +116,10 @@ impl Pool {
 /// An item, borrowed or owned.
 #[derive(Drop)]
 pub enum Item<'p, W: Wait + Copy> {
-    Mutex(MutexReusable<'p, Value, Part, Part, AnyValue, W>),
-    MutexOwned(MutexOwnedReusable<Value, Part, Part, AnyValue, W>),
-    SpinLock(SpinLockReusable<'p, Value, Part, Part, AnyValue, W>),
-    SpinLockOwned(SpinLockOwnedReusable<Value, Part, Part, AnyValue, W>),
+    Mutex(MutexReusable<'p, Value, Part, Part, W>),
+    MutexOwned(MutexOwnedReusable<Value, Part, Part, W>),
+    SpinLock(SpinLockReusable<'p, Value, Part, Part, W>),
+    SpinLockOwned(SpinLockOwnedReusable<Value, Part, Part, W>),
 }
 
 impl<W: Wait + Copy> Item<'_, W> {

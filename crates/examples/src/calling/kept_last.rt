@@ -13,7 +13,7 @@ use std::sync::Wait;
 type Numbers = SpinLockObjectPool<u32, Copied<u32, AnyValue>, Keep>;
 
 /// A number of the pool.
-type Number<'p, W> = SpinLockReusable<'p, u32, Copied<u32, AnyValue>, Keep, AnyValue, W>;
+type Number<'p, W> = SpinLockReusable<'p, u32, Copied<u32, AnyValue>, Keep, W>;
 
 /// Has the pool keep a 7. The note's last operation is this return.
 fn keep_seven<W: Wait + Copy>(rt: &W, numbers: &Numbers) -> Result<StackNote<u32>, PullError>

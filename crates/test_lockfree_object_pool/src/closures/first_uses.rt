@@ -43,7 +43,7 @@ fn new_server(alloc: Global) -> Result<Server, PullError> {
 /// A job that keeps its item and shows it.
 #[derive(Debug, Drop)]
 struct Job<'p, W: Wait + Copy> {
-    item: MutexReusable<'p, u32, Copied<u32, AnyValue>, Keep, AnyValue, W>,
+    item: MutexReusable<'p, u32, Copied<u32, AnyValue>, Keep, W>,
 }
 
 #[test]
