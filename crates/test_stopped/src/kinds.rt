@@ -40,10 +40,12 @@ pub enum Kind {
     /// The linear pool, by `try_pull`, `pull_owned`.
     LinearTry,
     LinearOwned,
-    /// The fixed pool, by `pull_near`, `try_pull`, `pull_owned`.
+    /// The fixed pool, by `pull_near`, `try_pull`, `try_pull_from`, `pull_owned`, `pull_by_owner`.
     FixedNear,
     FixedTry,
+    FixedNoted,
     FixedOwned,
+    FixedByOwner,
     /// The lazy pool, by `near`, `try_pull`, `pull_with`, `pull_owned`.
     LazyNear,
     LazyTry,
@@ -58,7 +60,7 @@ pub enum Kind {
 }
 
 impl Kind {
-    pub const ALL: [Kind; 21] = [
+    pub const ALL: [Kind; 23] = [
         Kind::LinearRoom,
         Kind::LinearHint,
         Kind::LinearLast,
@@ -72,7 +74,9 @@ impl Kind {
         Kind::LinearOwned,
         Kind::FixedNear,
         Kind::FixedTry,
+        Kind::FixedNoted,
         Kind::FixedOwned,
+        Kind::FixedByOwner,
         Kind::LazyNear,
         Kind::LazyTry,
         Kind::LazyWith,
@@ -97,7 +101,9 @@ impl Kind {
             Kind::LinearOwned => "linear_owned",
             Kind::FixedNear => "fixed_near",
             Kind::FixedTry => "fixed_try",
+            Kind::FixedNoted => "fixed_noted",
             Kind::FixedOwned => "fixed_owned",
+            Kind::FixedByOwner => "fixed_by_owner",
             Kind::LazyNear => "lazy_near",
             Kind::LazyTry => "lazy_try",
             Kind::LazyWith => "lazy_with",
@@ -127,7 +133,9 @@ impl Kind {
             Kind::Fixed
             | Kind::FixedNear
             | Kind::FixedTry
+            | Kind::FixedNoted
             | Kind::FixedOwned
+            | Kind::FixedByOwner
             | Kind::Worker
             | Kind::StackNote
             | Kind::Lazy
@@ -190,7 +198,9 @@ fn one<R: Print + Threads + Wait + Copy + Sync>(
         Kind::Fixed | Kind::FixedLast => on_fixed(rt, alloc, Way::Pull, state, task),
         Kind::FixedNear => on_fixed(rt, alloc, Way::Near, state, task),
         Kind::FixedTry => on_fixed(rt, alloc, Way::Try, state, task),
-        Kind::FixedOwned => on_fixed_owned(rt, alloc, state, task),
+        Kind::FixedNoted => on_fixed(rt, alloc, Way::Noted, state, task),
+        Kind::FixedOwned => on_fixed_owned(rt, alloc, Way::Pull, state, task),
+        Kind::FixedByOwner => on_fixed_owned(rt, alloc, Way::Noted, state, task),
         Kind::Lazy | Kind::LazyLast => on_lazy(rt, alloc, Way::Pull, state, task),
         Kind::LazyNear => on_lazy(rt, alloc, Way::Near, state, task),
         Kind::LazyTry => on_lazy(rt, alloc, Way::Try, state, task),
@@ -276,11 +286,13 @@ fn on_fixed<R: Print + Threads + Sync>(
 fn on_fixed_owned<R: Print + Threads + Sync>(
     rt: &R,
     alloc: Global,
+    way: Way,
     state: State,
     task: Task,
 ) -> io::Result<()> {
     let pool = Arc::new(alloc, fixed(alloc)?)?;
-    both_calls!(rt, alloc, &pool, state, task, FixedOwnedItem)
+    let by = (&pool, way);
+    both_calls!(rt, alloc, by, state, task, FixedOwnedItem)
 }
 
 fn on_lazy<R: Print + Threads + Sync>(

@@ -29,7 +29,7 @@ pub type LazyItem<'p> = LazyReusable<'p, u32, Zeros, Keep>;
 
 pub type SpinLocked = SpinLockObjectPool<u32, Zeros, Keep>;
 
-pub type SpinLockedItem<'p, R> = SpinLockReusable<'p, u32, Zeros, Keep, AnyValue, R>;
+pub type SpinLockedItem<'p, R> = SpinLockReusable<'p, u32, Zeros, Keep, R>;
 
 pub type FixedWorker<'p> = Worker<u32, Near<'p, u32, Zeros, Keep>>;
 
@@ -47,6 +47,7 @@ pub enum Way {
     Pull,
     Near,
     Try,
+    Noted,
     With,
 }
 
@@ -95,6 +96,13 @@ impl<'p, R> Gives<FixedItem<'p>, R> for (&'p Fixed, Way) {
                     Err(_) => Err(PullError::Limit),
                 }
             }
+            Way::Noted => {
+                let pass = PullPass::new();
+                match self.0.try_pull_from(&pass, self.0.note()) {
+                    Ok(item) => Ok(item),
+                    Err(_) => Err(PullError::Limit),
+                }
+            }
             Way::Pull | Way::With => self.0.pull(),
         }
     }
@@ -104,9 +112,16 @@ impl<'p, R> Gives<FixedItem<'p>, R> for (&'p Fixed, Way) {
     }
 }
 
-impl<'p, R> Gives<FixedOwnedItem, R> for &'p Arc<Fixed> {
+impl<'p, R> Gives<FixedOwnedItem, R> for (&'p Arc<Fixed>, Way) {
     fn pull_one(self, _rt: &R) -> Result<FixedOwnedItem, PullError> {
-        self.pull_owned()
+        if self.1 != Way::Noted {
+            return self.0.pull_owned();
+        }
+        let owner = Arc::try_clone(self.0)?;
+        match owner.pull_by_owner(1, self.0.note()) {
+            Ok(item) => Ok(item),
+            Err(_) => Err(PullError::Limit),
+        }
     }
 
     fn number(item: &FixedOwnedItem) -> usize {
@@ -129,7 +144,7 @@ impl<'p, R> Gives<LazyItem<'p>, R> for (&'p Lazy, Way) {
                 Ok(item) => Ok(item),
                 Err(_) => Err(PullError::Limit),
             },
-            Way::Pull => self.0.pull(),
+            Way::Pull | Way::Noted => self.0.pull(),
         }
     }
 
