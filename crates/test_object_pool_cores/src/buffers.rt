@@ -13,8 +13,6 @@ use std::process::Abort;
 use std::sync::Arc;
 use std::thread;
 
-mod sizes;
-
 /// A thread that still asks after so many refusals gives up, and its test fails.
 const MOST_TURNS: u32 = 10_000_000;
 
@@ -34,12 +32,6 @@ fn made_pool(rt: &(impl Abort + AllocGlobal)) -> ReadyPool {
 /// Pulls a buffer. One has to be free.
 fn pulled<'p>(rt: &impl Abort, pool: &'p ReadyPool) -> Buffer<'p, WithCapacity, Clear> {
     pool.pull().expect(rt, "an item is free")
-}
-
-/// Checks what a value is shown by.
-fn shows(rt: &(impl Abort + AllocGlobal), value: &impl Debug, expected: &str) {
-    let text = format!(in rt.alloc(); "{value:?}").expect(rt, "memory is left");
-    assert_equal(rt, text.as_str(), expected);
 }
 
 /// What a buffer holds after two appends, and what the same room holds when it is pulled again.
@@ -143,8 +135,7 @@ fn pulled_at_last(pool: &ReadyPool) -> Option<Buffer<'_, WithCapacity, Clear>> {
 
 #[test]
 fn five_threads_find_each_buffer_empty(rt: HostRuntime) {
-    let pool = made_pool(&rt);
-    let pool = Arc::new(rt.alloc(), pool).expect(&rt, "memory is left");
+    let pool = Arc::new(rt.alloc(), made_pool(&rt)).expect(&rt, "memory is left");
     let mut threads = Vec::with_capacity(rt.alloc(), 5).expect(&rt, "memory is left");
     for _ in 0..5 {
         let pool = Arc::try_clone(&pool).expect(&rt, "memory is left");
@@ -157,24 +148,89 @@ fn five_threads_find_each_buffer_empty(rt: HostRuntime) {
     }
 }
 
+/// Checks what a value is shown by.
+fn shows(rt: &(impl Abort + AllocGlobal), value: &impl Debug, expected: &str) {
+    let text = format!(in rt.alloc(); "{value:?}").expect(rt, "memory is left");
+    assert_equal(rt, text.as_str(), expected);
+}
+
+/// Checks what a buffer of these bytes is shown by.
+fn is_shown(rt: &(impl Abort + AllocGlobal), bytes: &[u8], expected: &str) {
+    let pool = made_pool(rt);
+    let mut buffer = pulled(rt, &pool);
+    buffer.append(bytes).expect(rt, "memory is left");
+    shows(rt, &buffer, expected);
+}
+
 #[test]
 fn a_pool_and_its_buffer_are_shown(rt: HostRuntime) {
-    let pool = made_pool(&rt);
-    let mut buffer = pulled(&rt, &pool);
-    buffer.append(&[7, 9]).expect(&rt, "memory is left");
     let expected = "BufferPool { pool: LinearObjectPool { limit: Some(1), .. } }";
-    shows(&rt, &pool, expected);
-    shows(&rt, &buffer, "[7, 9]");
+    shows(&rt, &made_pool(&rt), expected);
+    is_shown(&rt, &[7, 9], "[7, 9]");
 }
 
 #[test]
 fn an_empty_buffer_and_a_full_one_are_shown(rt: HostRuntime) {
-    let pool = made_pool(&rt);
-    let mut buffer = pulled(&rt, &pool);
-    shows(&rt, &buffer, "[]");
-    buffer
-        .append(&[0, 1, 2, 3, 4, 5, 6, 7, 8, 9, 10, 11, 12, 13, 14, 255])
-        .expect(&rt, "memory is left");
+    is_shown(&rt, b"", "[]");
+    let bytes = [0, 1, 2, 3, 4, 5, 6, 7, 8, 9, 10, 11, 12, 13, 14, 255];
     let expected = "[0, 1, 2, 3, 4, 5, 6, 7, 8, 9, 10, 11, 12, 13, 14, 255]";
-    shows(&rt, &buffer, expected);
+    is_shown(&rt, &bytes, expected);
+}
+
+#[test]
+fn a_buffer_of_hundreds_of_bytes_is_shown_whole(rt: HostRuntime) {
+    let text = format!(in rt.alloc(); "{:?}", [7u8; 600].as_slice()).expect(&rt, "memory is left");
+    assert_equal(&rt, text.len(), 1800);
+    is_shown(&rt, &[7; 600], text.as_str());
+}
+
+#[test]
+fn the_greatest_limit_needs_no_memory_beforehand(rt: HostRuntime) {
+    let init = WithCapacity::new(rt.alloc(), 16);
+    let pool = BufferPool::new(rt.alloc(), init, Clear, usize::MAX).expect(&rt, "a pool is made");
+    let buffer = pulled(&rt, &pool);
+    assert_equal(&rt, (buffer.page_number(), buffer.page_id()), (0, 0));
+}
+
+/// How many bytes a mebibyte is.
+const MEBIBYTE: usize = 1 << 20;
+
+#[test]
+fn a_fresh_buffer_has_the_room_that_is_asked_for(rt: HostRuntime) {
+    for capacity in [0, 1, 100_000, 2 * MEBIBYTE, 3 * MEBIBYTE] {
+        let bytes = fresh(rt.alloc(), capacity).expect(&rt, "there is memory");
+        assert!(rt; bytes.is_empty() && bytes.capacity() == capacity);
+    }
+}
+
+/// A buffer takes these parts, each of which is a byte so many times, and holds them all.
+fn takes(rt: &(impl Abort + AllocGlobal), parts: &[(u8, usize)]) {
+    let pool = made_pool(rt);
+    let mut buffer = pulled(rt, &pool);
+    let mut expected = Vec::new(rt.alloc());
+    for (byte, count) in parts {
+        let part = vec![in rt.alloc(); *byte; *count].expect(rt, "memory is left");
+        buffer.append(&part).expect(rt, "memory is left");
+        expected
+            .extend_from_slice(&part)
+            .expect(rt, "memory is left");
+    }
+    assert!(*rt; buffer.as_slice() == expected.as_slice());
+}
+
+#[test]
+fn a_buffer_takes_long_texts_again_and_again(rt: HostRuntime) {
+    let mut parts = [(7u8, 5000usize); 21];
+    parts[20] = (7, 0);
+    takes(&rt, &parts);
+}
+
+#[test]
+fn a_buffer_of_a_mebibyte_takes_more(rt: HostRuntime) {
+    takes(&rt, &[(7, MEBIBYTE), (1, 4), (9, 5000)]);
+}
+
+#[test]
+fn three_mebibytes_are_appended_at_once(rt: HostRuntime) {
+    takes(&rt, &[(7, 3 * MEBIBYTE)]);
 }

@@ -1,25 +1,21 @@
-//! Whole inputs with their outputs, and devices that fail.
+//! Whole inputs with their outputs. In a row `;` ends a line, and `=>` stands before what is answered.
+mod devices;
+mod failures;
+mod long;
+
 use crate::assert_equal::assert_equal;
+use devices::{Device, Input};
 use object_pool_cores::engine::*;
-use std::alloc::{AllocError, Global};
-use std::io::{Read, Write};
+use std::io::Write;
 use std::process::Abort;
 use std::sync::Wait;
 
-mod devices;
-mod failures;
-mod lines_and_numbers;
-mod long_inputs;
-mod long_replies;
-
-use devices::{Device, Parts};
-
 /// Plays an input on a pool, of at least one page where it has a limit.
-fn play<H: Wait + AllocGlobal, R: Read, W: Write>(
+fn play<H: Wait + AllocGlobal, W: Write>(
     rt: &H,
     kind: Kind,
     reset: Reset,
-    input: &mut R,
+    input: &mut Input<'_>,
     output: &mut W,
 ) -> Result<(), EngineError> {
     let kind = match kind {
@@ -27,19 +23,6 @@ fn play<H: Wait + AllocGlobal, R: Read, W: Write>(
         Kind::Linear | Kind::Stack | Kind::None => kind,
     };
     run(rt, rt.alloc(), kind, reset, input, output)
-}
-
-/// What the engine answers to an input.
-fn output_of<H: Abort + Wait + AllocGlobal>(
-    rt: &H,
-    kind: Kind,
-    reset: Reset,
-    input: &str,
-) -> Vec<u8> {
-    let mut output = Vec::new(rt.alloc());
-    let mut bytes = input.as_bytes();
-    play(rt, kind, reset, &mut bytes, &mut output).expect(rt, "the input is played");
-    output
 }
 
 /// Plays an input, whose output has to be the one that is expected.
@@ -50,174 +33,139 @@ fn answers<H: Abort + Wait + AllocGlobal>(
     input: &str,
     expected: &str,
 ) {
-    let output = output_of(rt, kind, reset, input);
-    assert_eq!(*rt;
-        output.as_slice(),
-        expected.as_bytes(),
-        "{kind:?}, {input:?}"
+    let mut output = Vec::new(rt.alloc());
+    let result = play(
+        rt,
+        kind,
+        reset,
+        &mut Input::new(&[input.as_bytes()]),
+        &mut output,
     );
+    assert_equal(rt, result, Ok(()));
+    let is_expected = output.as_slice() == expected.as_bytes();
+    assert!(*rt; is_expected, "{kind:?}, {input:?}");
 }
 
-/// Whether bytes are this reply, so many times.
-fn is_repeated(bytes: &[u8], reply: &[u8], times: usize) -> bool {
-    let length = reply.len().max(1);
-    for part in bytes.chunks(length) {
-        if part != reply {
-            return false;
-        }
+/// The lines of one half of a row.
+fn lines_of(rt: &(impl Abort + AllocGlobal), text: &str) -> String {
+    let mut lines = String::new(rt.alloc());
+    let (text, end) = match text.strip_suffix(';') {
+        Some(text) => (text, "\n"),
+        None => (text, ""),
+    };
+    for (index, line) in text.split("; ").enumerate() {
+        let before = if index > 0 { "\n" } else { "" };
+        lines.push_str(before).expect(rt, "memory is left");
+        lines.push_str(line).expect(rt, "memory is left");
     }
-    bytes.len() == length.saturating_mul(times)
+    lines.push_str(end).expect(rt, "memory is left");
+    lines
+}
+
+/// Plays a row.
+fn says<H: Abort + Wait + AllocGlobal>(rt: &H, kind: Kind, reset: Reset, row: &str) {
+    let (input, expected) = row.split_once(" => ").expect(rt, "a row has two halves");
+    let (input, expected) = (lines_of(rt, input), lines_of(rt, expected));
+    answers(rt, kind, reset, input.as_str(), expected.as_str());
+}
+
+/// Returns a line so many times.
+fn repeated(rt: &(impl Abort + AllocGlobal), line: &str, times: usize) -> String {
+    let mut text = String::new(rt.alloc());
+    for _ in 0..times {
+        text.push_str(line).expect(rt, "memory is left");
+    }
+    text
 }
 
 /// Plays an input on a pool that keeps values. It has to end so, with these bytes on the device.
 /// Returns how often the device was written to.
-fn plays<H: Abort + Wait + AllocGlobal, R: Read>(
+fn plays<H: Abort + Wait + AllocGlobal>(
     rt: &H,
     kind: Kind,
-    input: &mut R,
+    mut input: Input<'_>,
     mut output: Device,
     expected: (Result<(), EngineError>, &[u8]),
-) -> usize {
-    let result = play(rt, kind, Reset::Keep, input, &mut output);
-    assert_equal(rt, (result, output.bytes()), expected);
-    output.calls()
+) -> (usize, usize) {
+    let result = play(rt, kind, Reset::Keep, &mut input, &mut output);
+    assert_equal(rt, (result, output.bytes.as_slice()), expected);
+    (input.reads, output.writes)
 }
 
 #[test]
 fn answers_each_line(rt: HostRuntime) {
-    const ROWS: [(Reset, &str, &str); 8] = [
-        (
-            Reset::Keep,
-            "pull\nwrite 0 5\nreturn 0\npull\n",
-            "pulled 0 number 0 value 0\nwritten 0\nreturned 0\npulled 1 number 0 value 5\n",
-        ),
-        (Reset::Keep, "attach 1\n", "not offered\n"),
-        (
-            Reset::Zero,
-            "pull\npul",
-            "pulled 0 number 0 value 0\nbad line\n",
-        ),
-        (
-            Reset::Keep,
-            "pull\nwrite 0000000000 0000000005\nwrite 00000000000 5\n",
-            "pulled 0 number 0 value 0\nwritten 0\nbad line\n",
-        ),
-        (
-            Reset::Keep,
-            "pull \nwrite  0 5\nreturn\n",
-            "bad line\nbad line\nbad line\n",
-        ),
-        (Reset::Keep, "pull\r\n", "bad line\n"),
-        (
-            Reset::Keep,
-            "return 4294967295\nreturn 4294967296\n",
-            "no such holder\nbad line\n",
-        ),
-        (
-            Reset::Keep,
-            "pull\nforget 0\nreturn 0\npull\n",
-            "pulled 0 number 0 value 0\nforgotten 0\nno such holder\npulled 1 number 1 value 0\n",
-        ),
-    ];
-    for (reset, input, expected) in &ROWS {
-        answers(&rt, Kind::Linear, *reset, input, expected);
+    for row in [
+        "pull; write 0 5; return 0; pull; => pulled 0 number 0 value 0; written 0; returned 0; \
+         pulled 1 number 0 value 5;",
+        "attach 1; => not offered;",
+        "pull; write 0000000000 0000000005; write 00000000000 5; => pulled 0 number 0 value 0; \
+         written 0; bad line;",
+        "pull ; write  0 5; return; => bad line; bad line; bad line;",
+        "pull\r; => bad line;",
+        "return 4294967295; return 4294967296; => no such holder; bad line;",
+        "pull; forget 0; return 0; pull; => pulled 0 number 0 value 0; forgotten 0; \
+         no such holder; pulled 1 number 1 value 0;",
+    ] {
+        says(&rt, Kind::Linear, Reset::Keep, row);
     }
+    let row = "pull; pul => pulled 0 number 0 value 0; bad line;";
+    says(&rt, Kind::Linear, Reset::Zero, row);
 }
 
 #[test]
 fn a_reset_to_zero_and_bad_lines(rt: HostRuntime) {
-    let input =
-        "return 3\npull\nPULL\nwrite 0 4294967296\nwrite 0 4294967295\nreturn 0\nreturn 0\npull\n\n";
-    let expected =
-        "no such holder\npulled 0 number 0 value 0\nbad line\nbad line\nwritten 0\nreturned 0\nno such holder\npulled 1 number 0 value 0\nbad line\n";
-    answers(&rt, Kind::Linear, Reset::Zero, input, expected);
-}
-
-#[test]
-fn a_line_of_more_than_64_bytes_is_bad(rt: HostRuntime) {
-    let letters = "aaaaaaaaaaaaaaaaaaaaaaaaaaaaaaaaaaaaaaaaaaaaaaaaaaaaaaaaaaaaaaaa";
-    assert_equal(&rt, letters.len(), 64);
-    let input = format!(in rt.alloc(); "{letters}pull\npull\n").expect(&rt, "memory is left");
-    let expected = "bad line\npulled 0 number 0 value 0\n";
-    answers(&rt, Kind::Linear, Reset::Keep, input.as_str(), expected);
-}
-
-/// 33 pulls, a return and a pull, with the replies of a pool that may have one page.
-fn past_a_page(alloc: Global) -> Result<(String, String), AllocError> {
-    let mut input = String::new(alloc);
-    let mut expected = String::new(alloc);
-    for pulled in 0..32u8 {
-        input.push_str("pull\n")?;
-        write!(expected, "pulled {pulled} number {pulled} value 0\n")?;
-    }
-    input.push_str("pull\nreturn 7\npull\n")?;
-    expected.push_str("refused limit\nreturned 7\npulled 32 number 7 value 0\n")?;
-    Ok((input, expected))
-}
-
-#[test]
-fn a_bounded_pool_refuses_at_its_limit(rt: HostRuntime) {
-    let (input, expected) = past_a_page(rt.alloc()).expect(&rt, "memory is left");
-    let kind = Kind::Bounded(1);
-    answers(&rt, kind, Reset::Keep, input.as_str(), expected.as_str());
+    let row =
+        "return 3; pull; PULL; write 0 4294967296; write 0 4294967295; return 0; return 0; pull; ; \
+         => no such holder; pulled 0 number 0 value 0; bad line; bad line; written 0; returned 0; \
+         no such holder; pulled 1 number 0 value 0; bad line;";
+    says(&rt, Kind::Linear, Reset::Zero, row);
 }
 
 #[test]
 fn plays_a_stack_and_fresh_items(rt: HostRuntime) {
-    const ROWS: [(Kind, &str, &str); 2] = [
-        (
-            Kind::Stack,
-            "attach 9\nreturn 0\npull\nforget 1\npull\n",
-            "attached 0\nreturned 0\npulled 1 value 9\nforgotten 1\npulled 2 value 0\n",
-        ),
-        (
-            Kind::None,
-            "pull\nwrite 0 5\nreturn 0\npull\nattach 1\n",
-            "pulled 0 value 0\nwritten 0\nreturned 0\npulled 1 value 0\nnot offered\n",
-        ),
-    ];
-    for (kind, input, expected) in &ROWS {
-        answers(&rt, *kind, Reset::Keep, input, expected);
-    }
+    let row = "attach 9; return 0; pull; forget 1; pull; => attached 0; returned 0; \
+               pulled 1 value 9; forgotten 1; pulled 2 value 0;";
+    says(&rt, Kind::Stack, Reset::Keep, row);
+    let row = "pull; write 0 5; return 0; pull; attach 1; => pulled 0 value 0; written 0; \
+               returned 0; pulled 1 value 0; not offered;";
+    says(&rt, Kind::None, Reset::Keep, row);
 }
 
 #[test]
 fn no_line_has_no_reply(rt: HostRuntime) {
-    const KINDS: [Kind; 4] = [Kind::Linear, Kind::Bounded(1), Kind::Stack, Kind::None];
-    for kind in &KINDS {
-        answers(&rt, *kind, Reset::Zero, "", "");
+    for kind in [Kind::Linear, Kind::Bounded(1), Kind::Stack, Kind::None] {
+        answers(&rt, kind, Reset::Zero, "", "");
     }
 }
 
 #[test]
-fn replies_to_one_read_are_one_write(rt: HostRuntime) {
-    let mut input = SESSION;
-    let output = Device::new(1024, 1024);
-    let expected = (Ok(()), REPLIES);
-    let writes = plays(&rt, Kind::Linear, &mut input, output, expected);
-    // One write for the read, and one for the line that has no line feed.
-    assert_equal(&rt, writes, 2);
+fn the_greatest_numbers_are_answered_in_each_command(rt: HostRuntime) {
+    let row = "attach 4294967295; write 4294967295 1; return 4294967295; forget 4294967295; pull; \
+         write 0 4294967295; return 0; pull; => not offered; no such holder; no such holder; \
+         no such holder; pulled 0 number 0 value 0; written 0; returned 0; \
+         pulled 1 number 0 value 4294967295;";
+    says(&rt, Kind::Linear, Reset::Keep, row);
+    let row = "attach 4294967295; write 4294967295 1; return 4294967295; forget 4294967295; pull; \
+         write 1 4294967295; return 1; pull; => attached 0; no such holder; no such holder; \
+         no such holder; pulled 1 value 0; written 1; returned 1; pulled 2 value 4294967295;";
+    says(&rt, Kind::Stack, Reset::Keep, row);
 }
 
 #[test]
-fn a_zero_byte_makes_a_line_bad_and_ends_nothing(rt: HostRuntime) {
-    let rows: [(&[&[u8]], &[u8]); 4] = [
-        (&[b"\0pull\npull\n"], b"bad line\npulled 0 value 0\n"),
-        (
-            &[b"pull\n", b"\0pull\n", b"pull\n"],
-            b"pulled 0 value 0\nbad line\npulled 1 value 0\n",
-        ),
-        (&[b"pu", b"\0ll\npull\n"], b"bad line\npulled 0 value 0\n"),
-        (&[b"pull\n", b"\0"], b"pulled 0 value 0\nbad line\n"),
-    ];
-    for (parts, replies) in rows {
-        let mut input = Parts::new(parts, None);
-        let output = Device::new(1024, 1024);
-        plays(&rt, Kind::None, &mut input, output, (Ok(()), replies));
+fn each_kind_of_pool_is_reset_to_zero(rt: HostRuntime) {
+    let numbered = "pull; write 0 5; return 0; pull; => pulled 0 number 0 value 0; written 0; \
+                    returned 0; pulled 1 number 0 value 0;";
+    for kind in [
+        Kind::Linear,
+        Kind::Bounded(1),
+        Kind::Bounded(2),
+        Kind::Bounded(100),
+    ] {
+        says(&rt, kind, Reset::Zero, numbered);
+    }
+    let plain = "pull; write 0 5; return 0; pull; => pulled 0 value 0; written 0; returned 0; \
+                 pulled 1 value 0;";
+    for kind in [Kind::Stack, Kind::None] {
+        says(&rt, kind, Reset::Zero, plain);
     }
 }
-
-const SESSION: &[u8] = b"pull\nwrite 0 5\nreturn 0\npull";
-
-const REPLIES: &[u8] =
-    b"pulled 0 number 0 value 0\nwritten 0\nreturned 0\npulled 1 number 0 value 5\n";

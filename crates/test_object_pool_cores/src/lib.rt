@@ -1,5 +1,5 @@
 //! Tests of the cores with one owner, the player, the world of agents, the engine over lines, and
-//! the pool of byte buffers.
+//! the pool of byte buffers: rows of commands, and what no row can say.
 #![tactic(auto)]
 
 #[cfg(test)]
@@ -7,12 +7,12 @@ mod assert_equal;
 #[cfg(test)]
 mod buffers;
 #[cfg(test)]
-mod engine;
+mod cores;
 #[cfg(test)]
-mod interleave;
+mod engine;
 #[cfg(test)]
 mod run_error;
 #[cfg(test)]
-mod sequential;
+mod values;
 #[cfg(test)]
-mod tallies;
+mod worlds;

@@ -1,6 +1,6 @@
 //! What becomes of a value that memory was refused for.
 use crate::assert_equal::assert_equal;
-use crate::tallies::made_tally;
+use crate::values::made_tally;
 use object_pool_cores::sequential::RunError;
 use std::alloc::AllocFailed;
 use test_values::tallied::Tallied;

@@ -1,44 +1,34 @@
 //! Devices that fail, and want of memory, on each kind of pool.
-use super::devices::{Device, FailsOnce, Lines, Parts, Source};
 use super::*;
-use crate::assert_equal::assert_equal;
 use arrayvec::ArrayString;
 use std::fmt::Write as _;
 use std::io::ErrorKind;
-use std::process::Abort;
 
 /// An input for a kind of pool, whose last line has no line feed, with a reply for each line.
-#[derive(Clone, Copy)]
-struct Session {
-    kind: Kind,
-    input: &'static [u8],
-    replies: &'static [u8],
-}
+type Session = (Kind, &'static [u8], &'static [u8]);
 
-fn sessions() -> [Session; 4] {
-    [
-        Session {
-            kind: Kind::Linear,
-            input: b"pull\nwrite 0 5\nreturn 0\npull",
-            replies: b"pulled 0 number 0 value 0\nwritten 0\nreturned 0\npulled 1 number 0 value 5\n",
-        },
-        Session {
-            kind: Kind::Bounded(1),
-            input: b"pull\nattach 1\nforget 0\npull",
-            replies: b"pulled 0 number 0 value 0\nnot offered\nforgotten 0\npulled 1 number 1 value 0\n",
-        },
-        Session {
-            kind: Kind::Stack,
-            input: b"attach 9\nreturn 0\npull\nforget 1\npul",
-            replies: b"attached 0\nreturned 0\npulled 1 value 9\nforgotten 1\nbad line\n",
-        },
-        Session {
-            kind: Kind::None,
-            input: b"pull\nwrite 0 5\nreturn 0\npull",
-            replies: b"pulled 0 value 0\nwritten 0\nreturned 0\npulled 1 value 0\n",
-        },
-    ]
-}
+const SESSIONS: [Session; 4] = [
+    (
+        Kind::Linear,
+        b"pull\nwrite 0 5\nreturn 0\npull",
+        b"pulled 0 number 0 value 0\nwritten 0\nreturned 0\npulled 1 number 0 value 5\n",
+    ),
+    (
+        Kind::Bounded(1),
+        b"pull\nattach 1\nforget 0\npull",
+        b"pulled 0 number 0 value 0\nnot offered\nforgotten 0\npulled 1 number 1 value 0\n",
+    ),
+    (
+        Kind::Stack,
+        b"attach 9\nreturn 0\npull\nforget 1\npul",
+        b"attached 0\nreturned 0\npulled 1 value 9\nforgotten 1\nbad line\n",
+    ),
+    (
+        Kind::None,
+        b"pull\nwrite 0 5\nreturn 0\npull",
+        b"pulled 0 value 0\nwritten 0\nreturned 0\npulled 1 value 0\n",
+    ),
+];
 
 /// Counts the lines of a text that have their line feed.
 fn lines_in(text: &[u8]) -> usize {
@@ -63,41 +53,45 @@ fn first_lines(text: &'static [u8], count: usize) -> &'static [u8] {
     text
 }
 
-/// A reader of at most so many bytes a call, and fails after
-/// each count of bytes, also where the input would end.
+/// A reader of at most so many bytes a call fails after each count of bytes, also where the input
+/// would end.
 fn reads_that_fail(rt: &(impl Wait + Abort + AllocGlobal), session: Session, most: usize) {
-    for good in 0..=session.input.len() {
-        let read = &session.input[..good];
-        let whole = first_lines(session.replies, lines_in(read));
-        let mut input = Source::new(read, most);
+    let (kind, bytes, replies) = session;
+    for good in 0..=bytes.len() {
+        let parts = [&bytes[..good]];
+        let input = Input {
+            most,
+            cause: Some(ErrorKind::Other),
+            ..Input::new(&parts)
+        };
+        let whole = first_lines(replies, lines_in(parts[0]));
         let output = Device::new(1024, 1024);
-        let expected = (Err(EngineError::Read), whole);
-        plays(rt, session.kind, &mut input, output, expected);
+        plays(rt, kind, input, output, (Err(EngineError::Read), whole));
     }
 }
 
 #[test]
 fn a_reader_that_fails_leaves_the_replies_to_whole_lines(rt: HostRuntime) {
-    for session in sessions() {
+    for session in SESSIONS {
         reads_that_fail(&rt, session, 1);
         reads_that_fail(&rt, session, 7);
         reads_that_fail(&rt, session, 1024);
     }
 }
 
-/// A writer that takes at most so many bytes a call, and fails after each count of bytes.
+/// A writer that takes at most so many bytes a call fails after each count of bytes.
 fn writes_that_fail(rt: &(impl Wait + Abort + AllocGlobal), session: Session, most: usize) {
-    for room in 0..session.replies.len() {
-        let mut input = session.input;
+    let (kind, bytes, replies) = session;
+    for room in 0..replies.len() {
         let output = Device::new(room, most);
-        let expected = (Err(EngineError::Write), &session.replies[..room]);
-        plays(rt, session.kind, &mut input, output, expected);
+        let expected = (Err(EngineError::Write), &replies[..room]);
+        plays(rt, kind, Input::new(&[bytes]), output, expected);
     }
 }
 
 #[test]
 fn a_writer_that_fails_has_a_beginning_of_the_replies(rt: HostRuntime) {
-    for session in sessions() {
+    for session in SESSIONS {
         writes_that_fail(&rt, session, 1);
         writes_that_fail(&rt, session, 7);
         writes_that_fail(&rt, session, 1024);
@@ -106,31 +100,54 @@ fn a_writer_that_fails_has_a_beginning_of_the_replies(rt: HostRuntime) {
 
 #[test]
 fn a_device_fails_within_a_line(rt: HostRuntime) {
-    let mut input = Source::new(b"pull\nwri", 1024);
-    let output = Device::new(1024, 1024);
+    let input = Input {
+        cause: Some(ErrorKind::Other),
+        ..Input::new(&[b"pull\nwri"])
+    };
     let expected = (
         Err(EngineError::Read),
         b"pulled 0 number 0 value 0\n".as_slice(),
     );
-    plays(&rt, Kind::Linear, &mut input, output, expected);
-    let mut input = b"pull\n".as_slice();
-    let output = Device::new(10, 1024);
+    plays(&rt, Kind::Linear, input, Device::new(1024, 1024), expected);
     let expected = (Err(EngineError::Write), b"pulled 0 n".as_slice());
-    plays(&rt, Kind::Linear, &mut input, output, expected);
+    plays(
+        &rt,
+        Kind::Linear,
+        Input::new(&[b"pull\n"]),
+        Device::new(10, 1024),
+        expected,
+    );
+}
+
+#[test]
+fn replies_to_one_read_are_one_write(rt: HostRuntime) {
+    for (kind, bytes, replies) in SESSIONS {
+        let output = Device::new(1024, 1024);
+        let told = plays(&rt, kind, Input::new(&[bytes]), output, (Ok(()), replies));
+        // One write for the read, and one for the line that has no line feed.
+        assert_equal(&rt, told, (2, 2));
+    }
 }
 
 #[test]
 fn a_writer_may_take_one_byte_a_call_or_none(rt: HostRuntime) {
-    for session in sessions() {
-        let mut input = session.input;
-        let output = Device::new(1024, 1);
-        let expected = (Ok(()), session.replies);
-        plays(&rt, session.kind, &mut input, output, expected);
-        let mut input = session.input;
-        let output = Device::new(1024, 0);
+    for (kind, bytes, replies) in SESSIONS {
+        plays(
+            &rt,
+            kind,
+            Input::new(&[bytes]),
+            Device::new(1024, 1),
+            (Ok(()), replies),
+        );
         let expected = (Err(EngineError::Write), b"".as_slice());
-        let writes = plays(&rt, session.kind, &mut input, output, expected);
-        assert_equal(&rt, writes, 1);
+        let told = plays(
+            &rt,
+            kind,
+            Input::new(&[bytes]),
+            Device::new(1024, 0),
+            expected,
+        );
+        assert_equal(&rt, told.1, 1);
     }
 }
 
@@ -150,12 +167,13 @@ fn reads_that_fail_once(rt: &(impl Wait + Abort + AllocGlobal), cause: ErrorKind
         (&[b"pull\n", b"pu"], b"pulled 0 value 0\n"),
     ];
     for (parts, replies) in rows {
-        let mut input = Parts::new(parts, Some(cause));
-        let output = Device::new(1024, 1024);
+        let input = Input {
+            cause: Some(cause),
+            ..Input::new(parts)
+        };
         let expected = (Err(EngineError::Read), replies);
-        plays(rt, Kind::Stack, &mut input, output, expected);
-        let reads = parts.len().saturating_add(1);
-        assert_equal(rt, (cause, input.reads()), (cause, reads));
+        let told = plays(rt, Kind::Stack, input, Device::new(1024, 1024), expected);
+        assert_equal(rt, (cause, told.0), (cause, parts.len().saturating_add(1)));
     }
 }
 
@@ -169,29 +187,26 @@ fn a_read_that_fails_is_never_asked_again(rt: HostRuntime) {
 #[test]
 fn a_write_that_fails_is_never_asked_again(rt: HostRuntime) {
     for cause in PASSING {
-        let mut input = SESSION;
-        let mut output = FailsOnce::new(cause);
-        let result = run(
+        let output = Device {
+            cause: Some(cause),
+            ..Device::new(1024, 1024)
+        };
+        let expected = (Err(EngineError::Write), b"".as_slice());
+        let told = plays(
             &rt,
-            rt.alloc(),
             Kind::Stack,
-            Reset::Keep,
-            &mut input,
-            &mut output,
+            Input::new(&[SESSIONS[0].1]),
+            output,
+            expected,
         );
-        assert_equal(
-            &rt,
-            (cause, result, output.writes()),
-            (cause, Err(EngineError::Write), 1),
-        );
+        assert_equal(&rt, (cause, told.1), (cause, 1));
     }
 }
 
-/// Where no pull is refused for memory.
-const NOWHERE: usize = usize::MAX;
-
-/// How many pulls are played, past the first two pages.
+/// How many pulls are played, past the first two pages, and where none is refused for memory.
 const PULLS: usize = 70;
+
+const NOWHERE: usize = usize::MAX;
 
 /// The replies to pulls alone, of which the one at an index was refused for memory.
 fn replies_to_pulls(kind: Kind, refused: usize) -> ArrayString<4096> {
@@ -199,19 +214,18 @@ fn replies_to_pulls(kind: Kind, refused: usize) -> ArrayString<4096> {
     let mut pulled = 0usize;
     for index in 0..PULLS {
         let is_full = kind == Kind::Bounded(2) && pulled == 64;
-        if index == refused {
-            let _ = text.try_push_str("refused memory\n");
-        } else if is_full {
-            let _ = text.try_push_str("refused limit\n");
-        } else {
-            let _ = match kind {
-                Kind::Linear | Kind::Bounded(_) => {
-                    write!(text, "pulled {pulled} number {pulled} value 0\n")
-                }
-                Kind::Stack | Kind::None => write!(text, "pulled {pulled} value 0\n"),
-            };
-            pulled = pulled.saturating_add(1);
+        if index == refused || is_full {
+            let cause = if is_full { "limit" } else { "memory" };
+            let _ = write!(text, "refused {cause}\n");
+            continue;
         }
+        let _ = match kind {
+            Kind::Linear | Kind::Bounded(_) => {
+                write!(text, "pulled {pulled} number {pulled} value 0\n")
+            }
+            Kind::Stack | Kind::None => write!(text, "pulled {pulled} value 0\n"),
+        };
+        pulled = pulled.saturating_add(1);
     }
     text
 }
@@ -226,30 +240,26 @@ fn tells_of_one_refusal(kind: Kind, text: &[u8]) -> bool {
     false
 }
 
-/// Plays pulls alone by devices that never fail. Whether the output is that of ample memory.
+/// Plays pulls alone by devices that never fail. Returns whether the output is that of ample memory.
 fn plays_all_pulls(rt: &(impl Wait + Abort + AllocGlobal), kind: Kind) -> bool {
-    let mut input = Lines::new(b"pull\n", PULLS);
+    let mut input = Input {
+        times: PULLS,
+        ..Input::new(&[b"pull\n"])
+    };
     let mut output = Device::new(4096, 4096);
     let result = play(rt, kind, Reset::Keep, &mut input, &mut output);
-    let text = output.bytes();
+    let text = output.bytes.as_slice();
     let replies = replies_to_pulls(kind, NOWHERE);
     let whole = replies.as_str().as_bytes();
-    match result {
-        Ok(()) if text == whole => true,
-        Ok(()) => {
-            assert!(rt;
-                kind != Kind::None && tells_of_one_refusal(kind, text),
-                "{kind:?}"
-            );
-            false
-        }
+    let is_fair = match result {
+        Ok(()) => text == whole || kind != Kind::None && tells_of_one_refusal(kind, text),
         Err(error) => {
-            assert_eq!(rt; error, EngineError::Memory, "{kind:?}");
-            assert!(rt; whole.starts_with(text), "{kind:?}");
-            assert!(rt; text.is_empty() || text.ends_with(b"\n"), "{kind:?}");
-            false
+            assert_equal(rt, error, EngineError::Memory);
+            whole.starts_with(text) && (text.is_empty() || text.ends_with(b"\n"))
         }
-    }
+    };
+    assert!(*rt; is_fair, "{kind:?}");
+    result.is_ok() && text == whole
 }
 
 #[test]
@@ -274,28 +284,33 @@ const ATTACH_REFUSED: &[u8] =
 // Holds where each request for memory is refused in turn, and where none is.
 #[test]
 fn want_of_memory_is_answered_as_such(rt: HostRuntime) {
-    for session in sessions() {
-        let mut input = session.input;
+    for (kind, bytes, replies) in SESSIONS {
         let mut output = Device::new(1024, 1024);
-        let result = play(&rt, session.kind, Reset::Keep, &mut input, &mut output);
-        let text = output.bytes();
+        let result = play(
+            &rt,
+            kind,
+            Reset::Keep,
+            &mut Input::new(&[bytes]),
+            &mut output,
+        );
+        let text = output.bytes.as_slice();
         match result {
-            Ok(()) if session.kind == Kind::Stack && text.starts_with(b"refused memory\n") => {
+            Ok(()) if kind == Kind::Stack && text.starts_with(b"refused memory\n") => {
                 assert_equal(&rt, text, ATTACH_REFUSED);
             }
-            Ok(()) => assert_equal(&rt, text, session.replies),
+            Ok(()) => assert_equal(&rt, text, replies),
             Err(error) => {
-                assert_equal(&rt, error, EngineError::Memory);
-                assert_equal(&rt, text, first_lines(session.replies, lines_in(text)));
+                let told = (error, text);
+                let expected = first_lines(replies, lines_in(text));
+                assert_equal(&rt, told, (EngineError::Memory, expected));
             }
         }
     }
 }
 
-/// Six pulls, and before each a line that takes no memory.
+/// Six pulls, and before each a line that takes no memory; and how many reads of those are played.
 const PULLS_BEHIND_LINES: &[u8] = b"-\npull\n-\npull\n-\npull\n-\npull\n-\npull\n-\npull\n";
 
-/// How many reads of those lines are played.
 const READS: usize = 6;
 
 /// The replies to those reads.
@@ -307,29 +322,23 @@ fn replies_behind_lines() -> ArrayString<2048> {
     text
 }
 
-// Holds where each request for memory is refused in turn, and where none is.
+// Holds where each request for memory is refused in turn, and where none is. A pull that is refused
+// has no reply, and the line before it has one.
 #[test]
 fn the_lines_done_are_answered_where_memory_was_refused(rt: HostRuntime) {
-    let mut input = Lines::new(PULLS_BEHIND_LINES, READS);
+    let mut input = Input {
+        times: READS,
+        ..Input::new(&[PULLS_BEHIND_LINES])
+    };
     let mut output = Device::new(2048, 2048);
-    let result = run(
-        &rt,
-        rt.alloc(),
-        Kind::None,
-        Reset::Keep,
-        &mut input,
-        &mut output,
-    );
-    let text = output.bytes();
-    let replies = replies_behind_lines();
+    let result = play(&rt, Kind::None, Reset::Keep, &mut input, &mut output);
+    let (text, replies) = (output.bytes.as_slice(), replies_behind_lines());
     let whole = replies.as_str().as_bytes();
     match result {
         Ok(()) => assert_equal(&rt, text, whole),
         Err(error) => {
             assert_equal(&rt, error, EngineError::Memory);
-            assert!(rt; whole.starts_with(text));
-            // The pull alone has no reply, and the line before it has one.
-            assert!(rt; text.ends_with(b"bad line\n"));
+            assert!(rt; whole.starts_with(text) && text.ends_with(b"bad line\n"));
         }
     }
 }

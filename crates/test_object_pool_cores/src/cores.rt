@@ -1,0 +1,69 @@
+//! Rows of commands to cores with one owner, and to players on them.
+mod kept_and_fresh;
+mod linear;
+mod made_whole;
+mod opening;
+mod pages;
+mod player;
+
+use crate::assert_equal::assert_equal;
+use crate::values::{ends, made_tally};
+use object_pool_cores::sequential::{Player, SequentialPool};
+use opening::{Opening, Opens};
+use player::{CorePlayer, Held, Holds};
+use rows::row::first_difference;
+use std::alloc::Global;
+use std::process::Abort;
+use std::sync::Arc;
+use test_values::tallied::Tallied;
+use test_values::tally::Tally;
+
+/// Plays a row on a pool, and ends the pool with what is held of it.
+fn plays<H: Holds + Drop>(
+    rt: &(impl Abort + AllocGlobal),
+    tally: Arc<Tally>,
+    pool: H,
+    commands: &'static str,
+    answers: &'static str,
+) {
+    let mut player = CorePlayer::new(rt.alloc(), tally, pool);
+    let difference = first_difference(&mut player, commands, answers);
+    assert_equal(rt, difference, None);
+    let CorePlayer { pool, tally, .. } = player;
+    ends(rt, pool, &tally);
+}
+
+/// Plays a row by the own calls of a new core.
+fn on_core<C: SequentialPool<Tallied> + Opens + Drop>(
+    rt: &(impl Abort + AllocGlobal),
+    opening: Opening,
+    commands: &'static str,
+    answers: &'static str,
+) {
+    let (alloc, tally) = (rt.alloc(), made_tally(rt));
+    let core = C::open(alloc, &tally, opening).expect(rt, "a core is made");
+    plays(rt, tally, Held::new(alloc, core), commands, answers);
+}
+
+/// Plays a row by a player on a new core.
+fn on_player<C: SequentialPool<Tallied> + Opens + Drop>(
+    rt: &(impl Abort + AllocGlobal),
+    opening: Opening,
+    commands: &'static str,
+    answers: &'static str,
+) {
+    let (alloc, tally) = (rt.alloc(), made_tally(rt));
+    let core = C::open(alloc, &tally, opening).expect(rt, "a core is made");
+    plays(rt, tally, Player::new(alloc, core), commands, answers);
+}
+
+/// Plays a row in both ways.
+fn on_both<C: SequentialPool<Tallied> + Opens + Drop>(
+    rt: &(impl Abort + AllocGlobal),
+    opening: Opening,
+    commands: &'static str,
+    answers: &'static str,
+) {
+    on_core::<C>(rt, opening, commands, answers);
+    on_player::<C>(rt, opening, commands, answers);
+}
