@@ -1,22 +1,27 @@
-//! Tests of workers: what they keep, what they return, and how often a value is reset and dropped.
+//! Tests of workers: rows of commands, games of random commands beside a plain model, threads, and
+//! memory.
 #![tactic(auto)]
 
 #[cfg(test)]
 mod assert_equal;
 #[cfg(test)]
-mod counts;
+mod cases;
 #[cfg(test)]
 mod facts;
+#[cfg(test)]
+mod games;
 #[cfg(test)]
 mod lifetimes;
 #[cfg(test)]
 mod memory;
 #[cfg(test)]
+mod model;
+#[cfg(test)]
+mod player;
+#[cfg(test)]
+mod plays;
+#[cfg(test)]
 mod pools;
-#[cfg(test)]
-mod rejecting;
-#[cfg(test)]
-mod rooms;
 #[cfg(test)]
 mod sends;
 #[cfg(test)]

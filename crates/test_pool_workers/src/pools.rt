@@ -1,109 +1,145 @@
-//! The pools of these tests, whose values and resets a tally counts.
-ghost use Rattle.std.specs.Prelude.{◌≤◌, ⊤};
+//! The pools of these tests, and the places where their workers pull.
+ghost use Rattle.std.specs.Prelude.{◌≤◌};
 
 use fixed_pools::FixedObjectPool;
+use fixed_pools::near::Near as FixedNear;
 use lazy_pools::LazyObjectPool;
+use lazy_pools::near::Near as LazyNear;
 use linear_pools::LinearObjectPool;
-use linear_pools::clean::AnyValue;
-use linear_pools::closures::Reset;
+use pool_model::book::Book;
+use pool_model::value::{Closures, Value};
 use pool_parts::PullError;
+use pool_workers::fixed::FixedHeld;
+use pool_workers::lazy::LazyHeld;
+use pool_workers::linear::LinearHeld;
 use std::alloc::Global;
 use std::sync::Arc;
-use test_values::tallied::{Tallied, TalliedValues};
-use test_values::tally::Tally;
 
-/// A reset that changes nothing, and is counted.
-#[derive(Drop)]
-pub struct Counting {
-    tally: Arc<Tally>,
-}
+pub type Fixed = FixedObjectPool<Value, Closures, Closures>;
 
-impl Reset<Tallied, AnyValue> for Counting {
-    ghost leaves = { λ _ _ _. ⊤ };
+pub type Lazy = LazyObjectPool<Value, Closures, Closures>;
 
-    fn reset(&self, value: &mut Tallied) {
-        let _ = value;
-        self.tally.count_reset();
-    }
-}
-
-/// The pools of values that are counted.
-pub type Fixed = FixedObjectPool<Tallied, TalliedValues, Counting>;
-
-pub type Lazy = LazyObjectPool<Tallied, TalliedValues, Counting>;
-
-pub type Linear = LinearObjectPool<Tallied, TalliedValues, Counting>;
-
-fn parts_of(tally: &Arc<Tally>) -> Result<(TalliedValues, Counting), PullError> {
-    let counting = Counting {
-        tally: Arc::try_clone(tally)?,
-    };
-    Ok((TalliedValues::new(tally)?, counting))
-}
+pub type Linear = LinearObjectPool<Value, Closures, Closures>;
 
 /// Creates a fixed pool of so many items.
-pub fn fixed_of(alloc: Global, tally: &Arc<Tally>, items: usize) -> Result<Fixed, PullError>
+pub fn fixed_of(alloc: Global, book: &Arc<Book>, items: usize) -> Result<Fixed, PullError>
     requires { 1 ≤ items }
 {
-    let (init, reset) = parts_of(tally)?;
-    FixedObjectPool::new(alloc, init, reset, items)
+    FixedObjectPool::new(alloc, Closures::new(book)?, Closures::new(book)?, items)
 }
 
 /// Creates a lazy pool of so many items.
-pub fn lazy_of(alloc: Global, tally: &Arc<Tally>, items: usize) -> Result<Lazy, PullError>
+pub fn lazy_of(alloc: Global, book: &Arc<Book>, items: usize) -> Result<Lazy, PullError>
     requires { 1 ≤ items }
 {
-    let (init, reset) = parts_of(tally)?;
-    LazyObjectPool::new(alloc, init, reset, items)
+    LazyObjectPool::new(alloc, Closures::new(book)?, Closures::new(book)?, items)
 }
 
-/// Creates a lazy pool of one item, whose `init` refuses at its first call.
-pub fn lazy_that_refuses_once(alloc: Global, tally: &Arc<Tally>) -> Result<Lazy, PullError> {
-    let (_init, reset) = parts_of(tally)?;
-    LazyObjectPool::new(alloc, TalliedValues::new_but(tally, 0)?, reset, 1)
+/// Creates a linear pool of at most so many pages.
+pub fn linear_of(alloc: Global, book: &Arc<Book>, pages: usize) -> Result<Linear, PullError>
+    requires { 1 ≤ pages }
+{
+    LinearObjectPool::with_limit(alloc, Closures::new(book)?, Closures::new(book)?, pages)
 }
 
-/// Creates a linear pool of at most one page.
-pub fn linear_of(alloc: Global, tally: &Arc<Tally>) -> Result<Linear, PullError> {
-    let (init, reset) = parts_of(tally)?;
-    LinearObjectPool::with_limit(alloc, init, reset, 1)
+/// The number of an item in its pool, and how many values were made before its value.
+pub type Seen = (usize, usize);
+
+/// A pool that workers and others use. `P` is where a worker pulls, and `H` what it has of an item.
+pub trait Shared<P, H>: Copy {
+    /// Returns a place for a worker, and the page at which its pulls begin.
+    fn place(self) -> (P, usize);
+
+    /// Returns the number of an item in its pool.
+    fn number_of(held: &H) -> usize;
+
+    /// Another user pulls an item and returns it.
+    ///
+    /// # Errors
+    ///
+    /// As of the pool's own pull.
+    fn visit(self) -> Result<Seen, PullError>;
+
+    /// Returns how many items there were at once at most, and how many are in use, if the pool
+    /// counts them.
+    fn counted(self) -> Option<(usize, usize)>;
+
+    /// Closes the pool, if it can be closed.
+    fn close(self);
 }
 
-/// Creates a linear pool that grows.
-pub fn growing(alloc: Global, tally: &Arc<Tally>) -> Result<Linear, PullError> {
-    let (init, reset) = parts_of(tally)?;
-    LinearObjectPool::new(alloc, init, reset)
-}
+impl<'p> Shared<FixedNear<'p, Value, Closures, Closures>, FixedHeld<'p, Value, Closures, Closures>>
+    for &'p Fixed {
+    fn place(self) -> (FixedNear<'p, Value, Closures, Closures>, usize) {
+        let place = self.near();
+        let page = place.page_number();
+        (place, page)
+    }
 
-/// A pool at which a worker has company.
-pub trait Shared {
-    /// Returns the call that made the item that another user pulls and drops, if one is free.
-    fn next(&self) -> Option<usize>;
+    fn number_of(held: &FixedHeld<'p, Value, Closures, Closures>) -> usize {
+        held.number()
+    }
 
-    /// Returns how many items are in use, if the pool counts them.
-    fn used(&self) -> Option<usize> {
+    fn visit(self) -> Result<Seen, PullError> {
+        let item = self.pull()?;
+        Ok((item.number(), item.serial))
+    }
+
+    fn counted(self) -> Option<(usize, usize)> {
         None
     }
+
+    fn close(self) {}
 }
 
-impl Shared for Fixed {
-    fn next(&self) -> Option<usize> {
-        Some(self.pull().ok()?.number)
+impl<'p> Shared<LazyNear<'p, Value, Closures, Closures>, LazyHeld<'p, Value, Closures, Closures>>
+    for &'p Lazy {
+    fn place(self) -> (LazyNear<'p, Value, Closures, Closures>, usize) {
+        let place = self.near();
+        let page = place.page_number();
+        (place, page)
+    }
+
+    fn number_of(held: &LazyHeld<'p, Value, Closures, Closures>) -> usize {
+        held.number()
+    }
+
+    fn visit(self) -> Result<Seen, PullError> {
+        let item = self.pull()?;
+        Ok((item.number(), item.serial))
+    }
+
+    fn counted(self) -> Option<(usize, usize)> {
+        Some((self.made(), self.in_use()))
+    }
+
+    fn close(self) {
+        LazyObjectPool::close(self);
     }
 }
 
-impl Shared for Lazy {
-    fn next(&self) -> Option<usize> {
-        Some(self.pull().ok()?.number)
-    }
-
-    fn used(&self) -> Option<usize> {
-        Some(self.in_use())
-    }
+/// The number of an item, by its page's and that in the page.
+fn number_of(page: usize, id: u8) -> usize {
+    page.wrapping_mul(32).wrapping_add(id as usize)
 }
 
-impl Shared for Linear {
-    fn next(&self) -> Option<usize> {
-        Some(self.pull().ok()?.number)
+impl<'p> Shared<&'p Linear, LinearHeld<'p, Value, Closures, Closures>> for &'p Linear {
+    fn place(self) -> (&'p Linear, usize) {
+        (self, 0)
     }
+
+    fn number_of(held: &LinearHeld<'p, Value, Closures, Closures>) -> usize {
+        number_of(held.page_number(), held.page_id())
+    }
+
+    fn visit(self) -> Result<Seen, PullError> {
+        let item = self.pull()?;
+        Ok((number_of(item.page_number(), item.page_id()), item.serial))
+    }
+
+    fn counted(self) -> Option<(usize, usize)> {
+        None
+    }
+
+    fn close(self) {}
 }

@@ -1,27 +1,27 @@
 //! Workers that go to a thread, with the item that they keep.
 use crate::assert_equal::assert_equal;
-use crate::pools::{Counting, Fixed, Lazy, Shared, fixed_of, lazy_of};
+use crate::pools::{Fixed, Lazy, fixed_of, lazy_of};
 use fixed_pools::near::Near as FixedNear;
 use lazy_pools::near::Near as LazyNear;
+use pool_model::book::new_book;
+use pool_model::value::{Closures, Value};
 use pool_workers::Worker;
 use std::thread;
 use std::thread::Threads;
-use test_values::tallied::{Tallied, TalliedValues};
-use test_values::tally::new_tally;
 
 /// A worker of a fixed pool, and one of a lazy pool.
-type FixedWorker<'p> = Worker<Tallied, FixedNear<'p, Tallied, TalliedValues, Counting>>;
+type FixedWorker<'p> = Worker<Value, FixedNear<'p, Value, Closures, Closures>>;
 
-type LazyWorker<'p> = Worker<Tallied, LazyNear<'p, Tallied, TalliedValues, Counting>>;
+type LazyWorker<'p> = Worker<Value, LazyNear<'p, Value, Closures, Closures>>;
 
 /// Returns the call that made the item that a worker pulls, and then keeps.
 fn pull_fixed(worker: &FixedWorker<'_>) -> Option<usize> {
-    Some(worker.pull().ok()?.number)
+    Some(worker.pull().ok()?.serial)
 }
 
 /// The same by a worker of a lazy pool.
 fn pull_lazy(worker: &LazyWorker<'_>) -> Option<usize> {
-    Some(worker.pull().ok()?.number)
+    Some(worker.pull().ok()?.serial)
 }
 
 /// Pulls by a worker, which ends then.
@@ -57,14 +57,14 @@ fn pull_here_and_there<R: Threads>(
 
 #[test]
 fn a_worker_goes_to_a_thread_with_the_item_that_it_keeps(rt: HostRuntime) {
-    let tally = new_tally(rt.alloc()).expect(&rt, "memory is left");
-    let fixed = fixed_of(rt.alloc(), &tally, 1).expect(&rt, "a pool is made");
-    let lazy = lazy_of(rt.alloc(), &tally, 1).expect(&rt, "a pool is made");
+    let book = new_book(rt.alloc()).expect(&rt, "memory is left");
+    let fixed = fixed_of(rt.alloc(), &book, 1).expect(&rt, "a pool is made");
+    let lazy = lazy_of(rt.alloc(), &book, 1).expect(&rt, "a pool is made");
     let pulled = pull_here_and_there(&rt, &fixed, &lazy);
     assert_equal(&rt, pulled, [(Some(0), Some(1)), (Some(0), Some(1))]);
-    assert_equal(&rt, (tally.resets(), lazy.in_use()), (4, 0));
-    assert_equal(&rt, fixed.next(), Some(0));
+    assert_equal(&rt, (book.counts().resets, lazy.in_use()), (4, 0));
+    assert_equal(&rt, fixed.pull().is_ok_and(|item| item.serial == 0), true);
     drop(fixed);
     drop(lazy);
-    assert_equal(&rt, tally.now(), (2, 2));
+    assert_equal(&rt, (book.counts().calls, book.counts().drops), (2, 2));
 }
