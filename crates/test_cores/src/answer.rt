@@ -1,5 +1,4 @@
 //! Calls, what is answered to them, and how two answers differ.
-use crate::held::Pulled;
 use crate::tally::Counts;
 use lockfree_object_pool::PullError;
 use std::alloc::{AllocError, AllocFailed};
@@ -20,6 +19,18 @@ pub enum Call {
     End,
 }
 
+impl Call {
+    /// Returns whether the call attaches a value.
+    pub fn attaches(self) -> bool {
+        matches!(self, Call::Attach | Call::AttachOwned)
+    }
+
+    /// Returns whether the item that comes is to own its pool.
+    pub fn owns(self) -> bool {
+        matches!(self, Call::PullOwned | Call::AttachOwned)
+    }
+}
+
 /// What a call gave.
 #[derive(Clone, Copy, Debug, PartialEq, Eq)]
 pub enum Answer {
@@ -35,14 +46,13 @@ pub enum Answer {
     NotOut,
 }
 
-/// Returns the answer that an item, or a refusal, is.
-pub fn answer_of<A: Pulled>(given: &Result<A, PullError>) -> Answer {
-    match given {
-        Ok(item) => Answer::Came {
-            number: item.number(),
-            shown: item.shown(),
-        },
-        Err(cause) => Answer::Refused(*cause),
+impl Answer {
+    /// Returns the page of the item that came, or 0 where there is none, or no number.
+    pub fn page(self) -> usize {
+        let Answer::Came { number, .. } = self else {
+            return 0;
+        };
+        usize::try_from(number.unwrap_or(0) / 32).unwrap_or(0)
     }
 }
 

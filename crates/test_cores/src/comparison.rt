@@ -1,62 +1,31 @@
 //! Random calls on a running pool and on the core of its kind, whose answers are compared one by
 //! one.
-use crate::answer::{Answer, Call, Stopped, answer_of, compare};
+use crate::answer::{Answer, Call, Stopped, compare};
 use crate::draws::Draws;
 use crate::figures::Figures;
-use crate::held::Pulled;
 use crate::session::Session;
+use crate::side::{Ask, Pulled, Side};
 use crate::tallies::Tallies;
-use crate::tally::SideTally;
-use crate::value::Value;
 use lockfree_object_pool::PullError;
-use object_pool_cores::sequential::{Item, SequentialPool};
 use std::alloc::Global;
 use std::mem;
-use std::sync::Arc;
-
-/// What a running pool is asked for.
-#[derive(Drop)]
-pub enum Ask<T> {
-    Pull,
-    PullOwned,
-    /// An item of this value, under a borrow of the pool.
-    Attach(T),
-    /// The same with an owner of the pool.
-    AttachOwned(T),
-}
-
-/// A running pool, which gives items.
-pub trait Gives<T, A> {
-    /// Gives an item. Of this page is the one that the core gives to a pull.
-    fn gives(&self, asked: Ask<T>, page: usize) -> Result<A, PullError>;
-}
-
-/// The page of an item that the core gave. It is 0 where there is none, or no number.
-fn page_of<T>(given: &Result<Item<T>, PullError>) -> usize {
-    let Ok(item) = given else {
-        return 0;
-    };
-    let Some(number) = item.number() else {
-        return 0;
-    };
-    usize::try_from(number / 32).unwrap_or(0)
-}
 
 /// The items that one call gave on both sides.
 #[derive(Drop)]
-struct Pair<T, A> {
+struct Pair<A, B> {
     running: A,
-    core: Item<T>,
+    core: B,
     is_owned: bool,
 }
 
-/// A core, and what is held of it and of the running pool beside it.
+/// Both sides, and what is held of them.
 #[derive(Drop)]
-struct Comparison<T, A, C> {
+struct Comparison<A, B, R, C> {
+    running: R,
     core: C,
     draws: Draws,
     tallies: Tallies,
-    held: Vec<Pair<T, A>>,
+    held: Vec<Pair<A, B>>,
     forgot_owner: bool,
 }
 
@@ -69,55 +38,67 @@ pub struct Ended<C> {
     pub forgot_owner: bool,
 }
 
-/// Pulls so many items of a running pool and of the core beside it. Then does the session's calls
-/// on both, and drops what is held behind the last.
+/// Pulls so many items of both sides. Then does the session's calls on both, and drops what is held
+/// behind the last.
 ///
 /// # Errors
 ///
 /// `Stopped` if the two sides differ, or memory is refused.
-pub fn play<T: Value, A: Pulled, C: SequentialPool<T> + Drop, P: Gives<T, A>>(
+pub fn play<A: Pulled, B: Pulled, R: Side<Item = A> + Drop, C: Side<Item = B> + Drop>(
     alloc: Global,
-    pool: &P,
+    running: R,
     core: C,
     session: Session,
     tallies: Tallies,
     first: usize,
 ) -> Result<Ended<C>, Stopped> {
-    let mut comparison = Comparison::new(alloc, core, session, tallies);
-    comparison.pull_first(first, pool)?;
-    comparison.play(pool)
+    let mut comparison = Comparison {
+        running,
+        core,
+        draws: Draws::new(session),
+        tallies,
+        held: Vec::new(alloc),
+        forgot_owner: false,
+    };
+    comparison.pull_first(first)?;
+    comparison.play()
 }
 
-impl<T: Value, A: Pulled, C: SequentialPool<T> + Drop> Comparison<T, A, C> {
-    /// Creates a comparison with a core beside which nothing is held yet.
-    fn new(alloc: Global, core: C, session: Session, tallies: Tallies) -> Comparison<T, A, C> {
-        Comparison {
-            core,
-            draws: Draws::new(session),
-            tallies,
-            held: Vec::new(alloc),
-            forgot_owner: false,
-        }
+/// Returns the answer that an item, or a refusal, is.
+pub fn answer_of<A: Pulled>(given: &Result<A, PullError>) -> Answer {
+    match given {
+        Ok(item) => Answer::Came {
+            number: item.number(),
+            shown: item.shown(),
+        },
+        Err(cause) => Answer::Refused(*cause),
     }
+}
 
+impl<A: Pulled, B: Pulled, R: Side<Item = A> + Drop, C: Side<Item = B> + Drop> Comparison<
+    A,
+    B,
+    R,
+    C,
+> {
     /// Pulls so many items on both sides, and compares the tallies behind the last.
-    fn pull_first<P: Gives<T, A>>(&mut self, items: usize, pool: &P) -> Result<(), Stopped> {
+    fn pull_first(&mut self, items: usize) -> Result<(), Stopped> {
         for _ in 0..items {
-            let answer = self.pull(Call::Pull, Ask::Pull, pool)?;
+            let answer = self.give(Call::Pull)?;
             self.tallies.figures.count(Call::Pull, answer);
         }
         self.tallies.compare(Call::Pull)
     }
 
     /// Does the session's calls, and drops what is held then.
-    fn play<P: Gives<T, A>>(mut self, pool: &P) -> Result<Ended<C>, Stopped> {
+    fn play(mut self) -> Result<Ended<C>, Stopped> {
         for _ in 0..self.draws.session.calls {
             let held = self.held.len();
             let call = self.draws.call(held, &self.tallies);
-            self.call(call, pool)?;
+            self.call(call)?;
         }
         for _ in 0..self.held.len() {
-            self.call(Call::Drop, pool)?;
+            self.call(Call::Drop)?;
         }
         Ok(Ended {
             core: self.core,
@@ -127,65 +108,51 @@ impl<T: Value, A: Pulled, C: SequentialPool<T> + Drop> Comparison<T, A, C> {
     }
 
     /// Does a call on both sides.
-    fn call<P: Gives<T, A>>(&mut self, call: Call, pool: &P) -> Result<(), Stopped> {
+    fn call(&mut self, call: Call) -> Result<(), Stopped> {
         let answer = match call {
-            Call::Pull => self.pull(call, Ask::Pull, pool)?,
-            Call::PullOwned => self.pull(call, Ask::PullOwned, pool)?,
-            Call::Attach => {
-                let value = attached(&self.tallies.running, self.tallies.figures.calls)?;
-                self.attach(call, pool.gives(Ask::Attach(value), 0))?
-            }
-            Call::AttachOwned => {
-                let value = attached(&self.tallies.running, self.tallies.figures.calls)?;
-                self.attach(call, pool.gives(Ask::AttachOwned(value), 0))?
-            }
             Call::Look | Call::Write => self.write(call)?,
             Call::Drop | Call::Forget => self.let_go(call)?,
-            Call::Open | Call::End => Answer::Opened,
+            _ => self.give(call)?,
         };
         self.tallies.count(call, answer)
     }
 
-    /// What the core gives to a pull, beside what the running pool gives then.
-    fn pull<P: Gives<T, A>>(
-        &mut self,
-        call: Call,
-        asked: Ask<T>,
-        pool: &P,
-    ) -> Result<Answer, Stopped> {
-        let core = self.core.pull();
-        let running = pool.gives(asked, page_of(&core));
-        self.hold(call, running, core)
-    }
-
-    /// What the running pool gave to an attach, beside what the core gives.
-    fn attach(&mut self, call: Call, running: Result<A, PullError>) -> Result<Answer, Stopped> {
-        let value = attached(&self.tallies.core, self.tallies.figures.calls)?;
-        let core = match self.core.attach(value) {
-            Ok(item) => Ok(item),
-            Err(_) => Err(PullError::Memory),
+    /// Holds what both sides give, where it is the same. The core is asked first, since a fixed pool
+    /// is asked for an item near the core's.
+    fn give(&mut self, call: Call) -> Result<Answer, Stopped> {
+        let mut ask = Ask {
+            call,
+            walk: self.running.draw_walk(&mut self.draws.dice),
+            number: self.tallies.figures.calls,
+            page: 0,
         };
-        self.hold(call, running, core)
+        let core = self.core.give(ask, &self.tallies.core);
+        let answer = answer_of(&core);
+        ask.page = answer.page();
+        let running = self.running.give(ask, &self.tallies.running);
+        self.hold(call, answer, running, core)?;
+        let pages = (self.running.pages()? as u64, self.core.pages()? as u64);
+        compare(call, Answer::Shown(pages.0), Answer::Shown(pages.1))?;
+        Ok(answer)
     }
 
     /// Holds what both sides gave, where it is the same.
     fn hold(
         &mut self,
         call: Call,
+        answer: Answer,
         running: Result<A, PullError>,
-        core: Result<Item<T>, PullError>,
-    ) -> Result<Answer, Stopped> {
-        let answer = answer_of(&running);
-        compare(call, answer, answer_of(&core))?;
+        core: Result<B, PullError>,
+    ) -> Result<(), Stopped> {
+        compare(call, answer_of(&running), answer)?;
         if let (Ok(running), Ok(core)) = (running, core) {
-            let is_owned = matches!(call, Call::PullOwned | Call::AttachOwned);
             self.held.push(Pair {
                 running,
                 core,
-                is_owned,
+                is_owned: call.owns(),
             })?;
         }
-        Ok(answer)
+        Ok(())
     }
 
     /// Looks at one of the held items, and writes to it, or not.
@@ -223,27 +190,11 @@ impl<T: Value, A: Pulled, C: SequentialPool<T> + Drop> Comparison<T, A, C> {
             mem::forget(core);
             return Ok(answer);
         }
-        drop(running);
-        self.give(call, core)?;
-        Ok(answer)
-    }
-
-    /// Gives an item back to the core.
-    fn give(&mut self, call: Call, core: Item<T>) -> Result<(), Stopped> {
-        let shown = Answer::Shown(core.shown());
-        if !self.core.is_mine(&core) {
-            return Err(Stopped::OtherAnswer(call, shown, Answer::NotOut));
+        if self.running.take_back(running) && self.core.take_back(core) {
+            Ok(answer)
+        } else {
+            Err(Stopped::OtherAnswer(call, answer, Answer::NotOut))
         }
-        self.core.give(core);
-        Ok(())
-    }
-}
-
-/// A value that is attached. It is the same on both sides.
-fn attached<T: Value>(tally: &Arc<SideTally>, number: u64) -> Result<T, Stopped> {
-    match T::new(tally, number) {
-        Some(value) => Ok(value),
-        None => Err(Stopped::Memory),
     }
 }
 
@@ -252,7 +203,7 @@ fn attached<T: Value>(tally: &Arc<SideTally>, number: u64) -> Result<T, Stopped>
 ///
 /// # Errors
 ///
-/// `Stopped` if the two sides differ, or memory is refused.
+/// `Stopped` if the two sides differ.
 pub fn compare_ends<C: Drop>(ended: Ended<C>) -> Result<Figures, Stopped> {
     let Ended {
         core,
@@ -272,7 +223,7 @@ pub fn compare_ends<C: Drop>(ended: Ended<C>) -> Result<Figures, Stopped> {
 ///
 /// # Errors
 ///
-/// `Stopped` if the two sides differ, or memory is refused.
+/// `Stopped` if the two sides differ.
 pub fn compare_openings<P: Drop, C: Drop>(
     tallies: &Tallies,
     running: Result<P, PullError>,

@@ -1,11 +1,11 @@
 //! The pool that keeps nothing beside the core that keeps nothing.
-use crate::answer::{Answer, Call, Stopped, answer_of, compare};
-use crate::comparison::{Ended, compare_ends};
+use crate::answer::{Answer, Call, Stopped, compare};
+use crate::comparison::{Ended, answer_of, compare_ends};
 use crate::dice::Dice;
 use crate::figures::Figures;
-use crate::held::Pulled;
 use crate::maker::Maker;
 use crate::session::Session;
+use crate::side::{Held, Pulled};
 use crate::tallies::Tallies;
 use crate::value::Value;
 use lockfree_object_pool::{NoneObjectPool, NoneReusable, PullError};
@@ -13,10 +13,13 @@ use object_pool_cores::sequential::{Item, NoneCore, SequentialPool};
 use std::alloc::Global;
 use std::sync::Arc;
 
+/// An item of the pool, whichever call gave it.
+type FreshItem<T> = Held<NoneReusable<T>, NoneReusable<T>>;
+
 /// The items that one call gave on both sides.
 #[derive(Drop)]
 struct Pair<T> {
-    running: NoneReusable<T>,
+    running: FreshItem<T>,
     core: Item<T>,
 }
 
@@ -76,6 +79,9 @@ impl<T: Value> Fresh<T> {
         call: Call,
         running: Result<NoneReusable<T>, PullError>,
     ) -> Result<(), Stopped> {
+        let running: Result<FreshItem<T>, PullError> = running.map(|item| Held::Borrowed(
+            item, None,
+        ));
         let core = self.core.pull();
         let answer = answer_of(&running);
         compare(call, answer, answer_of(&core))?;

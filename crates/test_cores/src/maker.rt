@@ -61,6 +61,15 @@ impl<T: Value> Reset<T, AnyValue> for Traces {
     }
 }
 
+/// Creates what makes and what resets the items of a tally.
+///
+/// # Errors
+///
+/// If memory is refused.
+pub fn closures(tally: &Arc<SideTally>) -> Result<(Maker, Traces), AllocError> {
+    Ok((Maker::new(tally)?, Traces::new(tally)?))
+}
+
 /// Returns what a reset makes of a content.
 pub fn traced(content: u64) -> u64 {
     content.wrapping_mul(5).wrapping_add(1)

@@ -52,6 +52,8 @@ pub fn drawn(seed: u64, number: u64) -> Session {
     let element = drawn_element(&mut dice);
     let limit = drawn_limit(&mut dice);
     let most_held = drawn_most(&mut dice, element).min(most_asked(kind, limit));
+    let refuses = dice.one_in(2);
+    let forgets_owners = dice.one_in(16);
     Session {
         seed,
         number,
@@ -60,8 +62,8 @@ pub fn drawn(seed: u64, number: u64) -> Session {
         limit,
         calls: (most_held as u64).saturating_mul(4).saturating_add(500),
         most_held,
-        refuses: dice.one_in(2),
-        forgets_owners: dice.one_in(16),
+        refuses,
+        forgets_owners: forgets_owners && !matches!(kind, Kind::Pages),
         grows: false,
     }
 }
