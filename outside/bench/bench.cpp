@@ -217,6 +217,7 @@ std::vector<Row> all_rows() {
     add<ByHandle>(rows, "kundratu, handle", "refused only if all are in use; one item a handle");
     add<ByPlace>(rows, "kundratu, place", "refused only if all are in use");
     add<ByCache<8>>(rows, "kundratu, cache of 8", "others' caches count as in use; last in, first out");
+    add<ByCacheCalls<8>>(rows, "kundratu, cache of 8, calls", "the same, past the header's lines");
     add<ByCache<256>>(rows, "kundratu, cache of 256", "the same");
     add<ByArray>(rows, "kundratu, an array of 8", "the same, by hand");
 #ifdef HAS_DPDK

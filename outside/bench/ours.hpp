@@ -94,6 +94,20 @@ struct ByCache : OurPool {
     Item &item(const Held &held) { return items[kdr_place_number(&held)]; }
 };
 
+// The same by the proved calls, past the header's lines for what is kept.
+template <size_t ROOM>
+struct ByCacheCalls : ByCache<ROOM> {
+    using typename ByCache<ROOM>::User;
+    using typename ByCache<ROOM>::Held;
+    using ByCache<ROOM>::ByCache;
+
+    bool pull(User &user, Held &held) {
+        held = KDR_PLACE_EMPTY;
+        return (kdr_cache_pull)(&user.cache, &held) == KDR_DONE;
+    }
+    void give_back(User &user, Held &held) { (kdr_cache_return)(&user.cache, &held); }
+};
+
 struct ByArray : OurPool {
     struct User : OurPool::User {
         kdr_place kept[8];

@@ -19,6 +19,7 @@
 #endif
 
 #undef kdr_place_return
+#undef kdr_cache_pull
 #undef kdr_cache_return
 
 /* Each file of the library sees these, and no other does. */
@@ -98,9 +99,16 @@ size_t KDR_CALL kdr_pool_items(const kdr_handle *handle) {
     return PROVED(handle_items)(&moved);
 }
 
+/* Beside the cache stands what the header's lines ask for: where it is open, and how many numbers
+   its pool has. */
 kdr_status KDR_CALL kdr_cache_new(const kdr_handle *handle, size_t room, size_t page, kdr_cache *out) {
     kdr_handle moved = *handle;
-    return PROVED(cache_new)(&moved, room, page, out);
+    kdr_status status = PROVED(cache_new)(&moved, room, page, out);
+    if (status == KDR_DONE) {
+        out->open = out->at;
+        out->numbers = PROVED(handle_items)(&moved);
+    }
+    return status;
 }
 
 /* What this thread returns meanwhile, for the message. */

@@ -32,6 +32,11 @@
  *     kdr_cache_return(&cache, &place);
  *     kdr_cache_drop(&cache);
  *
+ * Where a cache keeps the place that came back last, and where it has room for one, these two calls
+ * are a few lines of this header: macros of the same names lead to them, and they to the calls for
+ * all else. They leave what the calls leave. They aren't proved: they are tested.
+ * (kdr_cache_pull)(&cache, &place) is the proved call.
+ *
  * No call waits for another thread. kdr_pool_new(), kdr_pool_share() and kdr_cache_new() allocate
  * memory, and no other call does. A pool ends with its last handle or cache; places that are in use
  * can't be returned then.
@@ -66,7 +71,9 @@
  * These mistakes have no answer that one can count on:
  *
  * - Two threads use one handle or one cache at once. Calls may return KDR_NO_POOL, and it may be
- *   empty from then on for both. The pool isn't freed then, and nothing says so.
+ *   empty from then on for both. The pool isn't freed then, and nothing says so. Or a signal ends
+ *   the program. Seldom both hold one place; this header's lines for caches let that come oftener
+ *   than the calls do.
  * - A handle or a cache is copied. Both may be used by turns until one is closed; then the other is
  *   invalid.
  * - The bytes of a handle or a cache are made up, or a pointer is null. The program reads or writes
@@ -158,9 +165,11 @@ typedef struct kdr_place {
     size_t pool;
 } kdr_place;
 
-/** A cache of places for one thread at a time, or an empty one. Its field is private. */
+/** A cache of places for one thread at a time, or an empty one. Its fields are private. */
 typedef struct kdr_cache {
     void *at;
+    void *open;
+    size_t numbers;
 } kdr_cache;
 
 /** What kdr_place_number() returns for an empty place. */
@@ -174,7 +183,7 @@ typedef struct kdr_cache {
 #else
 #define KDR_HANDLE_EMPTY ((kdr_handle){NULL})
 #define KDR_PLACE_EMPTY ((kdr_place){0, 0})
-#define KDR_CACHE_EMPTY ((kdr_cache){NULL})
+#define KDR_CACHE_EMPTY ((kdr_cache){NULL, NULL, 0})
 #endif
 
 /** Returns the number of a place, or KDR_NO_PLACE if it is empty. */
@@ -340,11 +349,88 @@ kdr_status KDR_CALL kdr_debug_place_return(kdr_handle *handle, kdr_place *place,
 kdr_status KDR_CALL kdr_debug_cache_return(kdr_cache *cache, kdr_place *place, const char *file,
                                            int line) KDR_NONNULL;
 
+/* What an open cache has, as the proved code lays it out: the numbers of the places that it keeps,
+   how many there are, and its room. A library that has it otherwise has another soname. */
+struct kdr_kept {
+    size_t way[3];
+    size_t pool;
+    void *owner;
+    size_t *numbers;
+    size_t count;
+    size_t room;
+};
+
+#if defined(__GNUC__)
+#define KDR_IS_LIKELY(holds) __builtin_expect(!!(holds), 1)
+#else
+#define KDR_IS_LIKELY(holds) (holds)
+#endif
+
+/* While a cache is changed, it is empty to a second thread, which is told KDR_NO_POOL. A compiler
+   would leave out what isn't volatile. */
+#define KDR_CACHE_AT(cache) (*(void *volatile *)&(cache)->at)
+
+/* These move a place for a call of the lines below, and back. So a compiler may keep the caller's
+   place in registers. What isn't volatile gcc would put together before it knows of a call. */
+static inline void kdr_inline_move(const kdr_place *place, volatile kdr_place *moved) {
+    moved->after = place->after;
+    moved->pool = place->pool;
+}
+
+static inline void kdr_inline_move_back(const volatile kdr_place *moved, kdr_place *place) {
+    place->after = moved->after;
+    place->pool = moved->pool;
+}
+
+/* What kdr_cache_pull() does: takes the place that came back last, if one is kept. */
+static inline kdr_status kdr_inline_cache_pull(kdr_cache *cache, kdr_place *place) {
+    struct kdr_kept *kept = (struct kdr_kept *)cache->open;
+    if (KDR_IS_LIKELY(kept != NULL && cache->at == kept && place->after == 0 && kept->count > 0)) {
+        size_t last = kept->count - 1;
+        KDR_CACHE_AT(cache) = NULL; /* until the place is out */
+        kept->count = last;
+        place->after = kept->numbers[last] + 1;
+        place->pool = kept->pool;
+        KDR_CACHE_AT(cache) = kept;
+        return KDR_DONE;
+    }
+    kdr_place moved;
+    kdr_inline_move(place, &moved);
+    kdr_status status = kdr_cache_pull(cache, &moved);
+    kdr_inline_move_back(&moved, place);
+    return status;
+}
+
+/* What kdr_cache_return() does: keeps the place, if there is room. */
+static inline kdr_status kdr_inline_cache_return(kdr_cache *cache, kdr_place *place) {
+    struct kdr_kept *kept = (struct kdr_kept *)cache->open;
+    size_t number = place->after - 1; /* of an empty place the greatest number */
+    if (KDR_IS_LIKELY(kept != NULL && cache->at == kept && number < cache->numbers &&
+                      place->pool == kept->pool && kept->count < kept->room)) {
+        size_t count = kept->count;
+        KDR_CACHE_AT(cache) = NULL; /* until the place is kept */
+        kept->numbers[count] = number;
+        kept->count = count + 1;
+        place->after = 0;
+        place->pool = 0;
+        KDR_CACHE_AT(cache) = kept;
+        return KDR_DONE;
+    }
+    kdr_place moved;
+    kdr_inline_move(place, &moved);
+    kdr_status status = kdr_cache_return(cache, &moved);
+    kdr_inline_move_back(&moved, place);
+    return status;
+}
+
 #ifdef KDR_DEBUG
 #define kdr_place_return(handle, place) \
     kdr_debug_place_return((handle), (place), __FILE__, __LINE__)
 #define kdr_cache_return(cache, place) \
     kdr_debug_cache_return((cache), (place), __FILE__, __LINE__)
+#else
+#define kdr_cache_pull(cache, place) kdr_inline_cache_pull((cache), (place))
+#define kdr_cache_return(cache, place) kdr_inline_cache_return((cache), (place))
 #endif
 
 #ifdef __cplusplus

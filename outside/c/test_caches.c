@@ -1,5 +1,7 @@
-/* Caches: random calls answer as a plain model does, which has a stack for each cache; what a cache keeps is in use to all others until
-   its flush or its end; caches whose pages are full go on apart; and threads that hand places on never hold one together.
+/* Caches: random calls, by the header's lines and past them, answer as a plain model does, which
+   has a stack for each cache; what a cache keeps is in use to all others until its flush or its
+   end; caches whose pages are full go on apart; and threads that hand places on never hold one
+   together.
    usage: test_caches [TURNS] */
 #include "kundratu_pool.h"
 #include "test_order.h"
@@ -79,7 +81,8 @@ static size_t draw(size_t below) {
 static void pull_as_the_model(struct model *model, size_t cache, size_t at) {
     kdr_place *place = &model->places[at], before = *place;
     size_t pool = POOL_OF[cache];
-    kdr_status status = kdr_cache_pull(&model->caches[cache], place);
+    kdr_cache *by = &model->caches[cache];
+    kdr_status status = draw(2) ? kdr_cache_pull(by, place) : (kdr_cache_pull)(by, place);
     size_t number = kdr_place_number(place);
     if (kdr_place_number(&before) != KDR_NO_PLACE) {
         check(status == KDR_HOLDS_ONE && memcmp(place, &before, sizeof before) == 0, "a place was pulled that isn't empty");
@@ -107,7 +110,8 @@ static void pull_as_the_model(struct model *model, size_t cache, size_t at) {
 static void return_as_the_model(struct model *model, size_t cache, size_t at) {
     kdr_place *place = &model->places[at], before = *place;
     size_t pool = POOL_OF[cache], number = kdr_place_number(place);
-    kdr_status status = kdr_cache_return(&model->caches[cache], place);
+    kdr_cache *by = &model->caches[cache];
+    kdr_status status = draw(2) ? kdr_cache_return(by, place) : (kdr_cache_return)(by, place);
     if (number == KDR_NO_PLACE || model->pool_of[at] != pool) {
         check(status == (number == KDR_NO_PLACE ? KDR_HOLDS_NONE : KDR_OTHER_POOL), "a return has another answer");
         check(memcmp(place, &before, sizeof before) == 0, "a return that was refused changed the place");
