@@ -4,6 +4,74 @@
 // It said: logic=proved functions=72 axioms=3 target=aarch64-unknown-linux-gnu sum=dac8208d650f15bf
 // outside/assembly/write writes this file, and outside/run compares it with what is proved anew.
 
+// fixed_pool_c::open_cache::OpenCache::flush
+	.section .text.kdr_0_1_0_flush, "ax", %progbits
+	.p2align 2
+	.type kdr_0_1_0_flush, %function
+kdr_0_1_0_flush:
+	.cfi_startproc
+	b	.L0_1_0_flush_5
+.L0_1_0_flush_1:
+	ldar	x10, [x9]
+	cmp	x8, x10
+	b.hs	.L0_1_0_flush_4
+.L0_1_0_flush_2:
+	ldaxr	x11, [x9]
+	cmp	x11, x10
+	b.ne	.L0_1_0_flush_3
+	stlxr	w11, x8, [x9]
+	cbz	w11, .L0_1_0_flush_4
+	b	.L0_1_0_flush_2
+.L0_1_0_flush_3:
+	clrex
+	b	.L0_1_0_flush_1
+.L0_1_0_flush_4:
+	ldr	x8, [x0, #32]
+	ldr	x9, [x8, #8]
+	ldar	xzr, [x9]
+	ldr	x8, [x8, #8]
+	ldar	xzr, [x8]
+.L0_1_0_flush_5:
+	ldr	x8, [x0, #48]
+	cbz	x8, .L0_1_0_flush_8
+	ldp	x9, x10, [x0, #32]
+	sub	x8, x8, #1
+	str	x8, [x0, #48]
+	mov	w11, #1
+	ldr	x10, [x10, x8, lsl #3]
+	ldr	x8, [x9, #16]
+	ldrb	w12, [x8, x10]
+	strb	w11, [x8, x10]
+	cbnz	w12, .L0_1_0_flush_9
+	ldr	x12, [x9, #8]
+	lsr	x8, x10, #5
+	lsl	w10, w11, w10
+	add	x11, x12, x8, lsl #3
+	orr	x12, x10, #0x100000000
+.L0_1_0_flush_6:
+	ldaxr	x10, [x11]
+	add	x13, x10, x12
+	stlxr	w14, x13, [x11]
+	cbnz	w14, .L0_1_0_flush_6
+	cbnz	w10, .L0_1_0_flush_4
+	add	x10, x9, #96
+	ldar	x11, [x10]
+	cmp	x11, x8
+	b.eq	.L0_1_0_flush_7
+	stlr	x8, [x10]
+.L0_1_0_flush_7:
+	add	x9, x9, #104
+	ldar	x10, [x9]
+	cmp	x8, x10
+	b.lo	.L0_1_0_flush_1
+	b	.L0_1_0_flush_4
+.L0_1_0_flush_8:
+	ret
+.L0_1_0_flush_9:
+	brk	#0x1
+	.cfi_endproc
+	.size kdr_0_1_0_flush, . - kdr_0_1_0_flush
+
 // fixed_pool_c::caches::pull_further
 	.section .text.kdr_0_1_0_pull_further, "ax", %progbits
 	.p2align 2
@@ -784,35 +852,56 @@ kdr_0_1_0_open:
 	.type kdr_0_1_0_give_back, %function
 kdr_0_1_0_give_back:
 	.cfi_startproc
-	ldr	x8, [x1, #32]
+	ldr	x9, [x1, #32]
 	mov	w10, #1
-	ldr	x9, [x8, #16]
-	ldrb	w11, [x9, x2]
-	strb	w10, [x9, x2]
-	cbnz	w11, .L0_1_0_give_back_3
-	ldr	x11, [x8, #8]
-	lsr	x9, x2, #5
+	ldr	x8, [x9, #16]
+	ldrb	w11, [x8, x2]
+	strb	w10, [x8, x2]
+	cbnz	w11, .L0_1_0_give_back_6
+	ldr	x11, [x9, #8]
+	lsr	x8, x2, #5
 	lsl	w10, w10, w2
-	add	x11, x11, x9, lsl #3
+	add	x11, x11, x8, lsl #3
 	orr	x12, x10, #0x100000000
 .L0_1_0_give_back_1:
 	ldaxr	x10, [x11]
 	add	x13, x10, x12
 	stlxr	w14, x13, [x11]
 	cbnz	w14, .L0_1_0_give_back_1
-	cbnz	w10, .L0_1_0_give_back_2
-	add	x8, x8, #96
-	ldar	x10, [x8]
-	cmp	x10, x9
+	cbnz	w10, .L0_1_0_give_back_5
+	add	x10, x9, #96
+	ldar	x11, [x10]
+	cmp	x11, x8
 	b.eq	.L0_1_0_give_back_2
-	stlr	x9, [x8]
+	stlr	x8, [x10]
 .L0_1_0_give_back_2:
+	add	x9, x9, #104
+	ldar	x10, [x9]
+	cmp	x8, x10
+	b.hs	.L0_1_0_give_back_5
+	ldar	x10, [x9]
+	cmp	x8, x10
+	b.hs	.L0_1_0_give_back_5
+.L0_1_0_give_back_3:
+	ldaxr	x11, [x9]
+	cmp	x11, x10
+	b.ne	.L0_1_0_give_back_4
+	stlxr	w11, x8, [x9]
+	cbz	w11, .L0_1_0_give_back_5
+	b	.L0_1_0_give_back_3
+.L0_1_0_give_back_4:
+	clrex
+	ldar	x10, [x9]
+	cmp	x8, x10
+	b.lo	.L0_1_0_give_back_3
+	b	.L0_1_0_give_back_5
+.L0_1_0_give_back_5:
 	stp	xzr, xzr, [x3]
 	ldr	x8, [x0]
 	str	x1, [x0]
-	cbnz	x8, .L0_1_0_give_back_3
+	cbnz	x8, .L0_1_0_give_back_6
 	ret
-.L0_1_0_give_back_3:
+.L0_1_0_give_back_6:
 	brk	#0x1
 	.cfi_endproc
 	.size kdr_0_1_0_give_back, . - kdr_0_1_0_give_back
@@ -825,121 +914,97 @@ kdr_0_1_0_give_back:
 	.type kdr_0_1_0_cache_drop, %function
 kdr_0_1_0_cache_drop:
 	.cfi_startproc
-	stp	x29, x30, [sp, #-48]!
-	.cfi_def_cfa_offset 48
-	.cfi_offset x30, -40
-	.cfi_offset x29, -48
-	stp	x20, x19, [sp, #32]
-	.cfi_offset x19, -8
-	.cfi_offset x20, -16
-	mov	x19, x0
-	ldr	x0, [x0]
-	stp	x22, x21, [sp, #16]
+	stp	x29, x30, [sp, #-64]!
+	.cfi_def_cfa_offset 64
+	.cfi_offset x30, -56
+	.cfi_offset x29, -64
+	stp	x22, x21, [sp, #32]
 	.cfi_offset x21, -24
 	.cfi_offset x22, -32
+	ldr	x22, [x0]
 	mov	x29, sp
-	str	xzr, [x19]
-	cbnz	x0, .L0_1_0_cache_drop_2
-	mov	w0, #4
-	ldp	x20, x19, [sp, #32]
-	.cfi_restore x20
-	.cfi_restore x19
-	ldp	x22, x21, [sp, #16]
-	.cfi_restore x22
-	.cfi_restore x21
-	ldp	x29, x30, [sp], #48
-	.cfi_def_cfa_offset 0
-	.cfi_restore x29
-	.cfi_restore x30
-	ret
-	.cfi_def_cfa_offset 48
+	str	x23, [sp, #16]
+	.cfi_offset x23, -48
+	stp	x20, x19, [sp, #48]
 	.cfi_offset x19, -8
 	.cfi_offset x20, -16
-	.cfi_offset x21, -24
-	.cfi_offset x22, -32
-	.cfi_offset x30, -40
-	.cfi_offset x29, -48
-.L0_1_0_cache_drop_1:
-	ldr	x8, [x0, #32]
-	ldr	x9, [x8, #8]
-	ldar	xzr, [x9]
-	ldr	x8, [x8, #8]
-	ldar	xzr, [x8]
-.L0_1_0_cache_drop_2:
-	ldr	x8, [x0, #48]
-	cbz	x8, .L0_1_0_cache_drop_4
-	sub	x9, x8, #1
-	ldp	x8, x10, [x0, #32]
-	str	x9, [x0, #48]
-	mov	w11, #1
-	ldr	x10, [x10, x9, lsl #3]
-	ldr	x9, [x8, #16]
-	ldrb	w12, [x9, x10]
-	strb	w11, [x9, x10]
-	cbnz	w12, .L0_1_0_cache_drop_7
-	ldr	x12, [x8, #8]
-	lsr	x9, x10, #5
-	lsl	w10, w11, w10
-	add	x11, x12, x9, lsl #3
-	orr	x12, x10, #0x100000000
-.L0_1_0_cache_drop_3:
-	ldaxr	x10, [x11]
-	add	x13, x10, x12
-	stlxr	w14, x13, [x11]
-	cbnz	w14, .L0_1_0_cache_drop_3
-	cbnz	w10, .L0_1_0_cache_drop_1
-	add	x8, x8, #96
-	ldar	x10, [x8]
-	cmp	x10, x9
-	b.eq	.L0_1_0_cache_drop_1
-	stlr	x9, [x8]
-	b	.L0_1_0_cache_drop_1
-.L0_1_0_cache_drop_4:
-	ldp	x20, x21, [x0, #32]
-	ldr	x22, [x0, #56]
+	str	xzr, [x0]
+	cbz	x22, .L0_1_0_cache_drop_3
+	mov	x20, x0
+	mov	x0, x22
+	bl	kdr_0_1_0_flush
+	ldp	x19, x21, [x22, #32]
+	mov	x0, x22
+	ldr	x23, [x22, #56]
 	bl	kdr_0_1_0_dealloc
-	ldr	x8, [x19]
-	str	xzr, [x19]
-	cbnz	x8, .L0_1_0_cache_drop_7
-	cbz	x22, .L0_1_0_cache_drop_5
+	ldr	x8, [x20]
+	str	xzr, [x20]
+	cbnz	x8, .L0_1_0_cache_drop_4
+	cbz	x23, .L0_1_0_cache_drop_1
 	mov	x0, x21
 	bl	kdr_0_1_0_dealloc
-.L0_1_0_cache_drop_5:
-	ldaxr	x8, [x20]
+.L0_1_0_cache_drop_1:
+	ldaxr	x8, [x19]
 	sub	x9, x8, #1
-	stlxr	w10, x9, [x20]
-	cbnz	w10, .L0_1_0_cache_drop_5
+	stlxr	w10, x9, [x19]
+	cbnz	w10, .L0_1_0_cache_drop_1
 	cmp	x8, #1
-	b.ne	.L0_1_0_cache_drop_6
-	ldr	x19, [x20, #40]
-	ldr	x21, [x20, #56]
-	mov	x0, x20
-	bl	kdr_0_1_0_dealloc
+	b.ne	.L0_1_0_cache_drop_2
+	ldr	x20, [x19, #40]
+	ldr	x21, [x19, #56]
 	mov	x0, x19
 	bl	kdr_0_1_0_dealloc
+	mov	x0, x20
+	bl	kdr_0_1_0_dealloc
 	mov	x0, x21
 	bl	kdr_0_1_0_dealloc
-.L0_1_0_cache_drop_6:
+.L0_1_0_cache_drop_2:
 	mov	w0, wzr
-	ldp	x20, x19, [sp, #32]
+	ldp	x20, x19, [sp, #48]
 	.cfi_restore x20
 	.cfi_restore x19
-	ldp	x22, x21, [sp, #16]
+	ldr	x23, [sp, #16]
+	.cfi_restore x23
+	ldp	x22, x21, [sp, #32]
 	.cfi_restore x22
 	.cfi_restore x21
-	ldp	x29, x30, [sp], #48
+	ldp	x29, x30, [sp], #64
 	.cfi_def_cfa_offset 0
 	.cfi_restore x29
 	.cfi_restore x30
 	ret
-	.cfi_def_cfa_offset 48
+	.cfi_def_cfa_offset 64
 	.cfi_offset x19, -8
 	.cfi_offset x20, -16
 	.cfi_offset x21, -24
 	.cfi_offset x22, -32
-	.cfi_offset x30, -40
-	.cfi_offset x29, -48
-.L0_1_0_cache_drop_7:
+	.cfi_offset x23, -48
+	.cfi_offset x30, -56
+	.cfi_offset x29, -64
+.L0_1_0_cache_drop_3:
+	mov	w0, #4
+	ldp	x20, x19, [sp, #48]
+	.cfi_restore x20
+	.cfi_restore x19
+	ldr	x23, [sp, #16]
+	.cfi_restore x23
+	ldp	x22, x21, [sp, #32]
+	.cfi_restore x22
+	.cfi_restore x21
+	ldp	x29, x30, [sp], #64
+	.cfi_def_cfa_offset 0
+	.cfi_restore x29
+	.cfi_restore x30
+	ret
+	.cfi_def_cfa_offset 64
+	.cfi_offset x19, -8
+	.cfi_offset x20, -16
+	.cfi_offset x21, -24
+	.cfi_offset x22, -32
+	.cfi_offset x23, -48
+	.cfi_offset x30, -56
+	.cfi_offset x29, -64
+.L0_1_0_cache_drop_4:
 	brk	#0x1
 	.cfi_endproc
 	.size kdr_0_1_0_cache_drop, . - kdr_0_1_0_cache_drop
@@ -952,59 +1017,53 @@ kdr_0_1_0_cache_drop:
 	.type kdr_0_1_0_cache_flush, %function
 kdr_0_1_0_cache_flush:
 	.cfi_startproc
-	ldr	x8, [x0]
+	stp	x29, x30, [sp, #-32]!
+	.cfi_def_cfa_offset 32
+	.cfi_offset x30, -24
+	.cfi_offset x29, -32
+	stp	x20, x19, [sp, #16]
+	.cfi_offset x19, -8
+	.cfi_offset x20, -16
+	ldr	x20, [x0]
+	mov	x29, sp
 	str	xzr, [x0]
-	cbz	x8, .L0_1_0_cache_flush_5
-	ldr	x9, [x8, #48]
-	cbnz	x9, .L0_1_0_cache_flush_2
-	str	x8, [x0]
+	cbz	x20, .L0_1_0_cache_flush_1
+	mov	x19, x0
+	mov	x0, x20
+	bl	kdr_0_1_0_flush
+	ldr	x8, [x19]
+	str	x20, [x19]
+	cbnz	x8, .L0_1_0_cache_flush_2
 	mov	w0, wzr
+	ldp	x20, x19, [sp, #16]
+	.cfi_restore x20
+	.cfi_restore x19
+	ldp	x29, x30, [sp], #32
+	.cfi_def_cfa_offset 0
+	.cfi_restore x29
+	.cfi_restore x30
 	ret
+	.cfi_def_cfa_offset 32
+	.cfi_offset x19, -8
+	.cfi_offset x20, -16
+	.cfi_offset x30, -24
+	.cfi_offset x29, -32
 .L0_1_0_cache_flush_1:
-	ldr	x9, [x8, #32]
-	ldr	x10, [x9, #8]
-	ldar	xzr, [x10]
-	ldr	x9, [x9, #8]
-	ldar	xzr, [x9]
-	ldr	x9, [x8, #48]
-	cbz	x9, .L0_1_0_cache_flush_4
-.L0_1_0_cache_flush_2:
-	sub	x10, x9, #1
-	ldp	x9, x11, [x8, #32]
-	str	x10, [x8, #48]
-	mov	w12, #1
-	ldr	x11, [x11, x10, lsl #3]
-	ldr	x10, [x9, #16]
-	ldrb	w13, [x10, x11]
-	strb	w12, [x10, x11]
-	cbnz	w13, .L0_1_0_cache_flush_6
-	ldr	x13, [x9, #8]
-	lsr	x10, x11, #5
-	lsl	w11, w12, w11
-	add	x12, x13, x10, lsl #3
-	orr	x13, x11, #0x100000000
-.L0_1_0_cache_flush_3:
-	ldaxr	x11, [x12]
-	add	x14, x11, x13
-	stlxr	w15, x14, [x12]
-	cbnz	w15, .L0_1_0_cache_flush_3
-	cbnz	w11, .L0_1_0_cache_flush_1
-	add	x9, x9, #96
-	ldar	x11, [x9]
-	cmp	x11, x10
-	b.eq	.L0_1_0_cache_flush_1
-	stlr	x10, [x9]
-	b	.L0_1_0_cache_flush_1
-.L0_1_0_cache_flush_4:
-	ldr	x9, [x0]
-	str	x8, [x0]
-	cbnz	x9, .L0_1_0_cache_flush_6
-	mov	w0, wzr
-	ret
-.L0_1_0_cache_flush_5:
 	mov	w0, #4
+	ldp	x20, x19, [sp, #16]
+	.cfi_restore x20
+	.cfi_restore x19
+	ldp	x29, x30, [sp], #32
+	.cfi_def_cfa_offset 0
+	.cfi_restore x29
+	.cfi_restore x30
 	ret
-.L0_1_0_cache_flush_6:
+	.cfi_def_cfa_offset 32
+	.cfi_offset x19, -8
+	.cfi_offset x20, -16
+	.cfi_offset x30, -24
+	.cfi_offset x29, -32
+.L0_1_0_cache_flush_2:
 	brk	#0x1
 	.cfi_endproc
 	.size kdr_0_1_0_cache_flush, . - kdr_0_1_0_cache_flush
@@ -1632,7 +1691,7 @@ kdr_0_1_0_handle_new:
 	bl	kdr_0_1_0_dealloc
 	ldr	w8, [sp, #16]
 	ldur	w9, [sp, #19]
-	mov	w0, #112
+	mov	w0, #120
 	mov	w1, #8
 	str	w8, [sp, #8]
 	stur	w9, [sp, #11]
@@ -1652,7 +1711,8 @@ kdr_0_1_0_handle_new:
 	strb	wzr, [x1, #88]
 	stur	w8, [x1, #89]
 	str	w9, [x1, #92]
-	stp	xzr, xzr, [x1, #96]
+	stp	xzr, xzr, [x1, #104]
+	str	xzr, [x1, #96]
 	mov	w1, #8
 	bl	kdr_0_1_0_alloc
 	tbz	w0, #0, .L0_1_0_handle_new_32
@@ -2098,12 +2158,12 @@ kdr_0_1_0_pool_drop:
 	cmp	w24, #1
 	b.ne	.L0_1_0_pool_drop_6
 	cmp	w23, #1
-	b.ne	.L0_1_0_pool_drop_9
+	b.ne	.L0_1_0_pool_drop_7
 	ldr	x8, [x21, #16]
 	mov	w9, #1
 	ldrb	w10, [x8, x22]
 	strb	w9, [x8, x22]
-	cbnz	w10, .L0_1_0_pool_drop_12
+	cbnz	w10, .L0_1_0_pool_drop_15
 	ldr	x10, [x21, #8]
 	lsr	x8, x22, #5
 	lsl	w9, w9, w22
@@ -2114,38 +2174,33 @@ kdr_0_1_0_pool_drop:
 	add	x12, x9, x11
 	stlxr	w13, x12, [x10]
 	cbnz	w13, .L0_1_0_pool_drop_1
-	cbnz	w9, .L0_1_0_pool_drop_2
+	cbnz	w9, .L0_1_0_pool_drop_12
 	add	x9, x21, #96
 	ldar	x10, [x9]
 	cmp	x10, x8
 	b.eq	.L0_1_0_pool_drop_2
 	stlr	x8, [x9]
 .L0_1_0_pool_drop_2:
-	ldaxr	x8, [x21]
-	subs	x8, x8, #1
-	stlxr	w9, x8, [x21]
-	cbnz	w9, .L0_1_0_pool_drop_2
-	b.ne	.L0_1_0_pool_drop_3
-	ldr	x22, [x21, #40]
-	ldr	x23, [x21, #56]
-	mov	x0, x21
-	bl	kdr_0_1_0_dealloc
-	mov	x0, x22
-	bl	kdr_0_1_0_dealloc
-	mov	x0, x23
-	bl	kdr_0_1_0_dealloc
+	add	x9, x21, #104
+	ldar	x10, [x9]
+	cmp	x8, x10
+	b.hs	.L0_1_0_pool_drop_12
+	ldar	x10, [x9]
+	cmp	x8, x10
+	b.hs	.L0_1_0_pool_drop_12
 .L0_1_0_pool_drop_3:
-	ldr	x8, [x20]
-	str	xzr, [x20]
-	cbnz	x8, .L0_1_0_pool_drop_12
+	ldaxr	x11, [x9]
+	cmp	x11, x10
+	b.ne	.L0_1_0_pool_drop_4
+	stlxr	w11, x8, [x9]
+	cbz	w11, .L0_1_0_pool_drop_12
+	b	.L0_1_0_pool_drop_3
 .L0_1_0_pool_drop_4:
-	ldaxr	x8, [x19]
-	sub	x9, x8, #1
-	stlxr	w10, x9, [x19]
-	cbnz	w10, .L0_1_0_pool_drop_4
-	cmp	x8, #1
-	b.eq	.L0_1_0_pool_drop_7
-	b	.L0_1_0_pool_drop_8
+	clrex
+	ldar	x10, [x9]
+	cmp	x8, x10
+	b.lo	.L0_1_0_pool_drop_3
+	b	.L0_1_0_pool_drop_12
 .L0_1_0_pool_drop_5:
 	mov	w0, #4
 	ldp	x20, x19, [sp, #48]
@@ -2177,11 +2232,37 @@ kdr_0_1_0_pool_drop:
 	stlxr	w10, x9, [x19]
 	cbnz	w10, .L0_1_0_pool_drop_6
 	cmp	x8, #1
-	b.ne	.L0_1_0_pool_drop_8
+	b.eq	.L0_1_0_pool_drop_10
+	b	.L0_1_0_pool_drop_11
 .L0_1_0_pool_drop_7:
+	ldr	x8, [x20]
+	str	xzr, [x20]
+	cbnz	x8, .L0_1_0_pool_drop_15
+.L0_1_0_pool_drop_8:
+	ldaxr	x8, [x21]
+	subs	x8, x8, #1
+	stlxr	w9, x8, [x21]
+	cbnz	w9, .L0_1_0_pool_drop_8
+	b.ne	.L0_1_0_pool_drop_9
+	ldr	x20, [x21, #40]
+	ldr	x22, [x21, #56]
+	mov	x0, x21
+	bl	kdr_0_1_0_dealloc
+	mov	x0, x20
+	bl	kdr_0_1_0_dealloc
+	mov	x0, x22
+	bl	kdr_0_1_0_dealloc
+.L0_1_0_pool_drop_9:
+	ldaxr	x8, [x19]
+	sub	x9, x8, #1
+	stlxr	w10, x9, [x19]
+	cbnz	w10, .L0_1_0_pool_drop_9
+	cmp	x8, #1
+	b.ne	.L0_1_0_pool_drop_11
+.L0_1_0_pool_drop_10:
 	mov	x0, x19
 	bl	kdr_0_1_0_dealloc
-.L0_1_0_pool_drop_8:
+.L0_1_0_pool_drop_11:
 	mov	w0, wzr
 	ldp	x20, x19, [sp, #48]
 	.cfi_restore x20
@@ -2206,33 +2287,33 @@ kdr_0_1_0_pool_drop:
 	.cfi_offset x24, -48
 	.cfi_offset x30, -56
 	.cfi_offset x29, -64
-.L0_1_0_pool_drop_9:
-	ldr	x8, [x20]
-	str	xzr, [x20]
-	cbnz	x8, .L0_1_0_pool_drop_12
-.L0_1_0_pool_drop_10:
+.L0_1_0_pool_drop_12:
 	ldaxr	x8, [x21]
 	subs	x8, x8, #1
 	stlxr	w9, x8, [x21]
-	cbnz	w9, .L0_1_0_pool_drop_10
-	b.ne	.L0_1_0_pool_drop_11
-	ldr	x20, [x21, #40]
-	ldr	x22, [x21, #56]
+	cbnz	w9, .L0_1_0_pool_drop_12
+	b.ne	.L0_1_0_pool_drop_13
+	ldr	x22, [x21, #40]
+	ldr	x23, [x21, #56]
 	mov	x0, x21
-	bl	kdr_0_1_0_dealloc
-	mov	x0, x20
 	bl	kdr_0_1_0_dealloc
 	mov	x0, x22
 	bl	kdr_0_1_0_dealloc
-.L0_1_0_pool_drop_11:
+	mov	x0, x23
+	bl	kdr_0_1_0_dealloc
+.L0_1_0_pool_drop_13:
+	ldr	x8, [x20]
+	str	xzr, [x20]
+	cbnz	x8, .L0_1_0_pool_drop_15
+.L0_1_0_pool_drop_14:
 	ldaxr	x8, [x19]
 	sub	x9, x8, #1
 	stlxr	w10, x9, [x19]
-	cbnz	w10, .L0_1_0_pool_drop_11
+	cbnz	w10, .L0_1_0_pool_drop_14
 	cmp	x8, #1
-	b.eq	.L0_1_0_pool_drop_7
-	b	.L0_1_0_pool_drop_8
-.L0_1_0_pool_drop_12:
+	b.eq	.L0_1_0_pool_drop_10
+	b	.L0_1_0_pool_drop_11
+.L0_1_0_pool_drop_15:
 	brk	#0x1
 	.cfi_endproc
 	.size kdr_0_1_0_pool_drop, . - kdr_0_1_0_pool_drop
@@ -2764,20 +2845,20 @@ kdr_0_1_0_pool_return:
 	.cfi_startproc
 	ldr	x8, [x0]
 	str	xzr, [x0]
-	cbz	x8, .L0_1_0_pool_return_4
+	cbz	x8, .L0_1_0_pool_return_6
 	movi	v0.2d, #0000000000000000
 	ldp	x9, x11, [x8, #56]
 	ldrb	w12, [x8, #40]
 	ldrb	w10, [x8, #48]
 	stur	q0, [x8, #40]
 	stur	q0, [x8, #56]
-	cbz	w12, .L0_1_0_pool_return_3
-	cbz	w10, .L0_1_0_pool_return_5
+	cbz	w12, .L0_1_0_pool_return_5
+	cbz	w10, .L0_1_0_pool_return_7
 	ldr	x10, [x9, #16]
 	mov	w12, #1
 	ldrb	w13, [x10, x11]
 	strb	w12, [x10, x11]
-	cbnz	w13, .L0_1_0_pool_return_6
+	cbnz	w13, .L0_1_0_pool_return_9
 	ldr	x13, [x9, #8]
 	lsr	x10, x11, #5
 	lsl	w11, w12, w11
@@ -2788,42 +2869,63 @@ kdr_0_1_0_pool_return:
 	add	x14, x11, x13
 	stlxr	w15, x14, [x12]
 	cbnz	w15, .L0_1_0_pool_return_1
-	cbnz	w11, .L0_1_0_pool_return_2
+	cbnz	w11, .L0_1_0_pool_return_8
 	add	x11, x9, #96
 	ldar	x12, [x11]
 	cmp	x12, x10
 	b.eq	.L0_1_0_pool_return_2
 	stlr	x10, [x11]
 .L0_1_0_pool_return_2:
+	add	x11, x9, #104
+	ldar	x12, [x11]
+	cmp	x10, x12
+	b.hs	.L0_1_0_pool_return_8
+	ldar	x12, [x11]
+	cmp	x10, x12
+	b.hs	.L0_1_0_pool_return_8
+.L0_1_0_pool_return_3:
+	ldaxr	x13, [x11]
+	cmp	x13, x12
+	b.ne	.L0_1_0_pool_return_4
+	stlxr	w13, x10, [x11]
+	cbz	w13, .L0_1_0_pool_return_8
+	b	.L0_1_0_pool_return_3
+.L0_1_0_pool_return_4:
+	clrex
+	ldar	x12, [x11]
+	cmp	x10, x12
+	b.lo	.L0_1_0_pool_return_3
+	b	.L0_1_0_pool_return_8
+.L0_1_0_pool_return_5:
+	ldr	x9, [x0]
+	str	x8, [x0]
+	cbnz	x9, .L0_1_0_pool_return_9
+.L0_1_0_pool_return_6:
+	mov	w0, #4
+	ret
+.L0_1_0_pool_return_7:
+	adrp	x10, .L0_1_0_constant_16_4
+	stp	x9, xzr, [x8, #56]
+	ldr	q0, [x10, :lo12:.L0_1_0_constant_16_4]
+	stur	q0, [x8, #40]
+	ldr	x9, [x0]
+	str	x8, [x0]
+	cbnz	x9, .L0_1_0_pool_return_9
+	mov	w0, #3
+	ret
+.L0_1_0_pool_return_8:
 	adrp	x10, .L0_1_0_constant_16_4
 	stp	x9, xzr, [x8, #56]
 	ldr	q0, [x10, :lo12:.L0_1_0_constant_16_4]
 	ldrb	w10, [x8, #40]
 	stur	q0, [x8, #40]
-	cbnz	w10, .L0_1_0_pool_return_6
+	cbnz	w10, .L0_1_0_pool_return_9
 	ldr	x9, [x0]
 	str	x8, [x0]
-	cbnz	x9, .L0_1_0_pool_return_6
+	cbnz	x9, .L0_1_0_pool_return_9
 	mov	w0, wzr
 	ret
-.L0_1_0_pool_return_3:
-	ldr	x9, [x0]
-	str	x8, [x0]
-	cbnz	x9, .L0_1_0_pool_return_6
-.L0_1_0_pool_return_4:
-	mov	w0, #4
-	ret
-.L0_1_0_pool_return_5:
-	adrp	x10, .L0_1_0_constant_16_4
-	stp	x9, xzr, [x8, #56]
-	ldr	q0, [x10, :lo12:.L0_1_0_constant_16_4]
-	stur	q0, [x8, #40]
-	ldr	x9, [x0]
-	str	x8, [x0]
-	cbnz	x9, .L0_1_0_pool_return_6
-	mov	w0, #3
-	ret
-.L0_1_0_pool_return_6:
+.L0_1_0_pool_return_9:
 	brk	#0x1
 	.cfi_endproc
 	.size kdr_0_1_0_pool_return, . - kdr_0_1_0_pool_return
@@ -2911,76 +3013,91 @@ kdr_0_1_0_place_return:
 	.cfi_startproc
 	ldr	x9, [x0]
 	str	xzr, [x0]
-	cbz	x9, .L0_1_0_place_return_2
+	cbz	x9, .L0_1_0_place_return_4
 	ldrb	w8, [x9, #40]
 	cbz	w8, .L0_1_0_place_return_1
 	cmp	w8, #1
 	b.ne	.L0_1_0_place_return_1
-	ldr	x10, [x1]
-	cbz	x10, .L0_1_0_place_return_3
-	ldr	x8, [x9, #24]
+	ldr	x8, [x1]
+	cbz	x8, .L0_1_0_place_return_5
+	ldr	x10, [x9, #24]
 	ldr	x11, [x1, #8]
-	cmp	x11, x8
-	b.ne	.L0_1_0_place_return_4
-	ldr	x8, [x9, #56]
-	ldr	x8, [x8, #72]
-	cmp	x8, x10
-	b.hs	.L0_1_0_place_return_5
+	cmp	x11, x10
+	b.ne	.L0_1_0_place_return_6
+	ldr	x10, [x9, #56]
+	ldr	x10, [x10, #72]
+	cmp	x10, x8
+	b.hs	.L0_1_0_place_return_7
 	mov	w8, #9
-	str	x9, [x0]
-	mov	w0, w8
-	ret
+	b	.L0_1_0_place_return_2
 .L0_1_0_place_return_1:
 	mov	w8, #4
-	str	x9, [x0]
-	mov	w0, w8
-	ret
 .L0_1_0_place_return_2:
-	mov	w0, #4
-	ret
-.L0_1_0_place_return_3:
-	mov	w8, #3
 	str	x9, [x0]
+.L0_1_0_place_return_3:
 	mov	w0, w8
 	ret
 .L0_1_0_place_return_4:
-	mov	w8, #8
-	str	x9, [x0]
-	mov	w0, w8
+	mov	w0, #4
 	ret
 .L0_1_0_place_return_5:
-	stp	xzr, xzr, [x1]
-	sub	x11, x10, #1
-	mov	w12, #1
-	ldr	x8, [x9, #56]
-	ldr	x13, [x8, #16]
-	ldrb	w10, [x13, x11]
-	strb	w12, [x13, x11]
-	cbnz	w10, .L0_1_0_place_return_8
-	ldr	x13, [x8, #8]
-	lsr	x10, x11, #5
-	lsl	w11, w12, w11
-	add	x12, x13, x10, lsl #3
-	orr	x13, x11, #0x100000000
+	mov	w8, #3
+	b	.L0_1_0_place_return_2
 .L0_1_0_place_return_6:
+	mov	w8, #8
+	b	.L0_1_0_place_return_2
+.L0_1_0_place_return_7:
+	stp	xzr, xzr, [x1]
+	sub	x11, x8, #1
+	mov	w12, #1
+	ldr	x10, [x9, #56]
+	ldr	x13, [x10, #16]
+	ldrb	w8, [x13, x11]
+	strb	w12, [x13, x11]
+	cbnz	w8, .L0_1_0_place_return_13
+	ldr	x13, [x10, #8]
+	lsr	x8, x11, #5
+	lsl	w11, w12, w11
+	add	x12, x13, x8, lsl #3
+	orr	x13, x11, #0x100000000
+.L0_1_0_place_return_8:
 	ldaxr	x11, [x12]
 	add	x14, x11, x13
 	stlxr	w15, x14, [x12]
-	cbnz	w15, .L0_1_0_place_return_6
-	cbnz	w11, .L0_1_0_place_return_7
-	add	x8, x8, #96
-	ldar	x11, [x8]
-	cmp	x11, x10
-	b.eq	.L0_1_0_place_return_7
-	stlr	x10, [x8]
-.L0_1_0_place_return_7:
+	cbnz	w15, .L0_1_0_place_return_8
+	cbnz	w11, .L0_1_0_place_return_12
+	add	x11, x10, #96
+	ldar	x12, [x11]
+	cmp	x12, x8
+	b.eq	.L0_1_0_place_return_9
+	stlr	x8, [x11]
+.L0_1_0_place_return_9:
+	add	x10, x10, #104
+	ldar	x11, [x10]
+	cmp	x8, x11
+	b.hs	.L0_1_0_place_return_12
+	ldar	x11, [x10]
+	cmp	x8, x11
+	b.hs	.L0_1_0_place_return_12
+.L0_1_0_place_return_10:
+	ldaxr	x12, [x10]
+	cmp	x12, x11
+	b.ne	.L0_1_0_place_return_11
+	stlxr	w12, x8, [x10]
+	cbz	w12, .L0_1_0_place_return_12
+	b	.L0_1_0_place_return_10
+.L0_1_0_place_return_11:
+	clrex
+	ldar	x11, [x10]
+	cmp	x8, x11
+	b.lo	.L0_1_0_place_return_10
+	b	.L0_1_0_place_return_12
+.L0_1_0_place_return_12:
 	stp	xzr, xzr, [x1]
 	ldr	x8, [x0]
 	str	x9, [x0]
-	cbnz	x8, .L0_1_0_place_return_8
-	mov	w0, w8
-	ret
-.L0_1_0_place_return_8:
+	cbz	x8, .L0_1_0_place_return_3
+.L0_1_0_place_return_13:
 	brk	#0x1
 	.cfi_endproc
 	.size kdr_0_1_0_place_return, . - kdr_0_1_0_place_return

@@ -4,6 +4,64 @@
 # It said: logic=proved functions=72 axioms=3 target=x86_64-unknown-linux-gnu cpu=x86-64-v2 sum=dac8208d650f15bf
 # outside/assembly/write writes this file, and outside/run compares it with what is proved anew.
 
+# fixed_pool_c::open_cache::OpenCache::flush
+	.section __TEXT,__text,regular,pure_instructions
+	.p2align 4
+_kdr_0_1_0_flush:
+	.cfi_startproc
+	jmp	L0_1_0_flush_2
+	.byte 0x66, 0x66, 0x66, 0x66, 0x66, 0x2e, 0x0f, 0x1f, 0x84, 0x00, 0x00, 0x00, 0x00, 0x00 # nopw %cs:(%rax,%rax)
+L0_1_0_flush_1:
+	movq	32(%rdi), %rax
+	movq	8(%rax), %rcx
+	movq	(%rcx), %rcx
+	movq	8(%rax), %rax
+	movq	(%rax), %rax
+L0_1_0_flush_2:
+	movq	48(%rdi), %rax
+	testq	%rax, %rax
+	je	L0_1_0_flush_5
+	leaq	-1(%rax), %rcx
+	movq	%rcx, 48(%rdi)
+	movq	32(%rdi), %rdx
+	movq	40(%rdi), %rcx
+	movq	-8(%rcx,%rax,8), %rcx
+	movq	16(%rdx), %rax
+	cmpb	$0, (%rax,%rcx)
+	movb	$1, (%rax,%rcx)
+	jne	L0_1_0_flush_6
+	movl	$1, %eax
+	shll	%cl, %eax
+	movabsq	$4294967296, %rsi       # imm = 0x100000000
+	orq	%rax, %rsi
+	movq	8(%rdx), %rax
+	shrq	$5, %rcx
+	lock xaddq	%rsi, (%rax,%rcx,8)
+	testl	%esi, %esi
+	jne	L0_1_0_flush_1
+	movq	96(%rdx), %rax
+	cmpq	%rcx, %rax
+	je	L0_1_0_flush_3
+	movq	%rcx, %rax
+	xchgq	%rax, 96(%rdx)
+L0_1_0_flush_3:
+	movq	104(%rdx), %rax
+	cmpq	%rax, %rcx
+	jae	L0_1_0_flush_1
+	.byte 0x0f, 0x1f, 0x00 # nopl (%rax)
+L0_1_0_flush_4:
+	movq	104(%rdx), %rax
+	cmpq	%rax, %rcx
+	jae	L0_1_0_flush_1
+	lock cmpxchgq	%rcx, 104(%rdx)
+	jne	L0_1_0_flush_4
+	jmp	L0_1_0_flush_1
+L0_1_0_flush_5:
+	retq
+L0_1_0_flush_6:
+	ud2
+	.cfi_endproc
+
 # fixed_pool_c::caches::pull_further
 	.section __TEXT,__text,regular,pure_instructions
 	.p2align 4
@@ -798,34 +856,46 @@ L0_1_0_open_4:
 	.p2align 4
 _kdr_0_1_0_give_back:
 	.cfi_startproc
-	movq	%rcx, %rax
-	movq	32(%rsi), %r8
-	movq	16(%r8), %rcx
-	cmpb	$0, (%rcx,%rdx)
-	movb	$1, (%rcx,%rdx)
-	jne	L0_1_0_give_back_2
-	movl	$1, %r9d
+	movq	32(%rsi), %r9
+	movq	16(%r9), %rax
+	cmpb	$0, (%rax,%rdx)
+	movb	$1, (%rax,%rdx)
+	jne	L0_1_0_give_back_4
+	movq	%rcx, %r8
+	movl	$1, %eax
 	movl	%edx, %ecx
-	shll	%cl, %r9d
+	shll	%cl, %eax
 	movabsq	$4294967296, %rcx       # imm = 0x100000000
-	orq	%r9, %rcx
-	movq	8(%r8), %r9
+	orq	%rax, %rcx
+	movq	8(%r9), %rax
 	shrq	$5, %rdx
-	lock xaddq	%rcx, (%r9,%rdx,8)
+	lock xaddq	%rcx, (%rax,%rdx,8)
 	testl	%ecx, %ecx
-	jne	L0_1_0_give_back_1
-	movq	96(%r8), %rcx
-	cmpq	%rdx, %rcx
+	jne	L0_1_0_give_back_3
+	movq	96(%r9), %rax
+	cmpq	%rdx, %rax
 	je	L0_1_0_give_back_1
-	xchgq	%rdx, 96(%r8)
+	movq	%rdx, %rax
+	xchgq	%rax, 96(%r9)
 L0_1_0_give_back_1:
+	movq	104(%r9), %rax
+	cmpq	%rax, %rdx
+	jae	L0_1_0_give_back_3
+	.byte 0x66, 0x2e, 0x0f, 0x1f, 0x84, 0x00, 0x00, 0x00, 0x00, 0x00 # nopw %cs:(%rax,%rax)
+L0_1_0_give_back_2:
+	movq	104(%r9), %rax
+	cmpq	%rax, %rdx
+	jae	L0_1_0_give_back_3
+	lock cmpxchgq	%rdx, 104(%r9)
+	jne	L0_1_0_give_back_2
+L0_1_0_give_back_3:
 	xorps	%xmm0, %xmm0
-	movups	%xmm0, (%rax)
+	movups	%xmm0, (%r8)
 	cmpq	$0, (%rdi)
 	movq	%rsi, (%rdi)
-	jne	L0_1_0_give_back_2
+	jne	L0_1_0_give_back_4
 	retq
-L0_1_0_give_back_2:
+L0_1_0_give_back_4:
 	ud2
 	.cfi_endproc
 
@@ -842,89 +912,60 @@ _kdr_0_1_0_cache_drop:
 	pushq	%r14
 	.cfi_def_cfa_offset 24
 	.cfi_offset %r14, -24
-	pushq	%r12
+	pushq	%r13
 	.cfi_def_cfa_offset 32
-	.cfi_offset %r12, -32
-	pushq	%rbx
+	.cfi_offset %r13, -32
+	pushq	%r12
 	.cfi_def_cfa_offset 40
-	.cfi_offset %rbx, -40
-	pushq	%rax
+	.cfi_offset %r12, -40
+	pushq	%rbx
 	.cfi_def_cfa_offset 48
-	movq	%rdi, %rbx
-	movq	(%rdi), %rdi
-	movq	$0, (%rbx)
-	testq	%rdi, %rdi
-	jne	L0_1_0_cache_drop_2
-	movl	$4, %eax
-	jmp	L0_1_0_cache_drop_5
-	.byte 0x66, 0x66, 0x66, 0x2e, 0x0f, 0x1f, 0x84, 0x00, 0x00, 0x00, 0x00, 0x00 # nopw %cs:(%rax,%rax)
-L0_1_0_cache_drop_1:
-	movq	32(%rdi), %rax
-	movq	8(%rax), %rcx
-	movq	(%rcx), %rcx
-	movq	8(%rax), %rax
-	movq	(%rax), %rax
-L0_1_0_cache_drop_2:
-	movq	48(%rdi), %rcx
-	testq	%rcx, %rcx
-	je	L0_1_0_cache_drop_3
-	leaq	-1(%rcx), %rax
-	movq	%rax, 48(%rdi)
-	movq	32(%rdi), %rax
-	movq	40(%rdi), %rdx
-	movq	-8(%rdx,%rcx,8), %rcx
-	movq	16(%rax), %rdx
-	cmpb	$0, (%rdx,%rcx)
-	movb	$1, (%rdx,%rcx)
-	jne	L0_1_0_cache_drop_6
-	movl	$1, %edx
-	shll	%cl, %edx
-	movabsq	$4294967296, %rsi       # imm = 0x100000000
-	orq	%rdx, %rsi
-	movq	8(%rax), %rdx
-	shrq	$5, %rcx
-	lock xaddq	%rsi, (%rdx,%rcx,8)
-	testl	%esi, %esi
-	jne	L0_1_0_cache_drop_1
-	movq	96(%rax), %rdx
-	cmpq	%rcx, %rdx
-	je	L0_1_0_cache_drop_1
-	xchgq	%rcx, 96(%rax)
-	jmp	L0_1_0_cache_drop_1
-L0_1_0_cache_drop_3:
-	movq	32(%rdi), %r14
-	movq	40(%rdi), %r15
-	movq	56(%rdi), %r12
-	callq	_kdr_0_1_0_dealloc
-	cmpq	$0, (%rbx)
-	movq	$0, (%rbx)
-	jne	L0_1_0_cache_drop_6
+	.cfi_offset %rbx, -48
+	movq	(%rdi), %r12
+	movq	$0, (%rdi)
 	testq	%r12, %r12
-	je	L0_1_0_cache_drop_4
+	je	L0_1_0_cache_drop_2
+	movq	%rdi, %r14
+	movq	%r12, %rdi
+	callq	_kdr_0_1_0_flush
+	movq	32(%r12), %rbx
+	movq	40(%r12), %r15
+	movq	56(%r12), %r13
+	movq	%r12, %rdi
+	callq	_kdr_0_1_0_dealloc
+	cmpq	$0, (%r14)
+	movq	$0, (%r14)
+	jne	L0_1_0_cache_drop_4
+	testq	%r13, %r13
+	je	L0_1_0_cache_drop_1
 	movq	%r15, %rdi
 	callq	_kdr_0_1_0_dealloc
-L0_1_0_cache_drop_4:
+L0_1_0_cache_drop_1:
 	xorl	%eax, %eax
-	lock decq	(%r14)
-	jne	L0_1_0_cache_drop_5
-	movq	40(%r14), %rbx
-	movq	56(%r14), %r15
-	movq	%r14, %rdi
-	callq	_kdr_0_1_0_dealloc
+	lock decq	(%rbx)
+	jne	L0_1_0_cache_drop_3
+	movq	40(%rbx), %r14
+	movq	56(%rbx), %r15
 	movq	%rbx, %rdi
 	callq	_kdr_0_1_0_dealloc
+	movq	%r14, %rdi
+	callq	_kdr_0_1_0_dealloc
 	movq	%r15, %rdi
 	callq	_kdr_0_1_0_dealloc
 	xorl	%eax, %eax
-L0_1_0_cache_drop_5:
-	addq	$8, %rsp
-	.cfi_def_cfa_offset 40
+	jmp	L0_1_0_cache_drop_3
+L0_1_0_cache_drop_2:
+	movl	$4, %eax
+L0_1_0_cache_drop_3:
 	popq	%rbx
-	.cfi_def_cfa_offset 32
+	.cfi_def_cfa_offset 40
 	.cfi_restore %rbx
 	popq	%r12
-	.cfi_def_cfa_offset 24
+	.cfi_def_cfa_offset 32
 	.cfi_restore %r12
+	popq	%r13
+	.cfi_def_cfa_offset 24
+	.cfi_restore %r13
 	popq	%r14
 	.cfi_def_cfa_offset 16
 	.cfi_restore %r14
@@ -935,9 +976,10 @@ L0_1_0_cache_drop_5:
 	.cfi_def_cfa_offset 48
 	.cfi_offset %r15, -16
 	.cfi_offset %r14, -24
-	.cfi_offset %r12, -32
-	.cfi_offset %rbx, -40
-L0_1_0_cache_drop_6:
+	.cfi_offset %r13, -32
+	.cfi_offset %r12, -40
+	.cfi_offset %rbx, -48
+L0_1_0_cache_drop_4:
 	ud2
 	.cfi_endproc
 
@@ -948,60 +990,52 @@ L0_1_0_cache_drop_6:
 	.private_extern _kdr_0_1_0_cache_flush
 _kdr_0_1_0_cache_flush:
 	.cfi_startproc
-	movq	(%rdi), %rdx
+	pushq	%r14
+	.cfi_def_cfa_offset 16
+	.cfi_offset %r14, -16
+	pushq	%rbx
+	.cfi_def_cfa_offset 24
+	.cfi_offset %rbx, -24
+	pushq	%rax
+	.cfi_def_cfa_offset 32
+	movq	(%rdi), %r14
 	movq	$0, (%rdi)
-	testq	%rdx, %rdx
-	je	L0_1_0_cache_flush_4
-	movq	48(%rdx), %rcx
-	testq	%rcx, %rcx
-	jne	L0_1_0_cache_flush_2
-	movq	%rdx, (%rdi)
-	xorl	%eax, %eax
-	retq
-	.byte 0x66, 0x66, 0x66, 0x66, 0x66, 0x2e, 0x0f, 0x1f, 0x84, 0x00, 0x00, 0x00, 0x00, 0x00 # nopw %cs:(%rax,%rax)
-L0_1_0_cache_flush_1:
-	movq	32(%rdx), %rax
-	movq	8(%rax), %rcx
-	movq	(%rcx), %rcx
-	movq	8(%rax), %rax
-	movq	(%rax), %rax
-	movq	48(%rdx), %rcx
-	testq	%rcx, %rcx
-	je	L0_1_0_cache_flush_3
-L0_1_0_cache_flush_2:
-	leaq	-1(%rcx), %rax
-	movq	%rax, 48(%rdx)
-	movq	32(%rdx), %rax
-	movq	40(%rdx), %rsi
-	movq	-8(%rsi,%rcx,8), %rcx
-	movq	16(%rax), %rsi
-	cmpb	$0, (%rsi,%rcx)
-	movb	$1, (%rsi,%rcx)
-	jne	L0_1_0_cache_flush_5
-	movl	$1, %esi
-	shll	%cl, %esi
-	movabsq	$4294967296, %r8        # imm = 0x100000000
-	orq	%rsi, %r8
-	movq	8(%rax), %rsi
-	shrq	$5, %rcx
-	lock xaddq	%r8, (%rsi,%rcx,8)
-	testl	%r8d, %r8d
-	jne	L0_1_0_cache_flush_1
-	movq	96(%rax), %rsi
-	cmpq	%rcx, %rsi
+	testq	%r14, %r14
 	je	L0_1_0_cache_flush_1
-	xchgq	%rcx, 96(%rax)
-	jmp	L0_1_0_cache_flush_1
-L0_1_0_cache_flush_3:
+	movq	%rdi, %rbx
+	movq	%r14, %rdi
+	callq	_kdr_0_1_0_flush
 	xorl	%eax, %eax
-	cmpq	$0, (%rdi)
-	movq	%rdx, (%rdi)
-	jne	L0_1_0_cache_flush_5
+	cmpq	$0, (%rbx)
+	movq	%r14, (%rbx)
+	jne	L0_1_0_cache_flush_2
+	addq	$8, %rsp
+	.cfi_def_cfa_offset 24
+	popq	%rbx
+	.cfi_def_cfa_offset 16
+	.cfi_restore %rbx
+	popq	%r14
+	.cfi_def_cfa_offset 8
+	.cfi_restore %r14
 	retq
-L0_1_0_cache_flush_4:
+	.cfi_def_cfa_offset 32
+	.cfi_offset %r14, -16
+	.cfi_offset %rbx, -24
+L0_1_0_cache_flush_1:
 	movl	$4, %eax
+	addq	$8, %rsp
+	.cfi_def_cfa_offset 24
+	popq	%rbx
+	.cfi_def_cfa_offset 16
+	.cfi_restore %rbx
+	popq	%r14
+	.cfi_def_cfa_offset 8
+	.cfi_restore %r14
 	retq
-L0_1_0_cache_flush_5:
+	.cfi_def_cfa_offset 32
+	.cfi_offset %r14, -16
+	.cfi_offset %rbx, -24
+L0_1_0_cache_flush_2:
 	ud2
 	.cfi_endproc
 
@@ -1664,7 +1698,7 @@ L0_1_0_handle_new_35:
 	movl	19(%rsp), %ecx
 	movl	%ecx, 11(%rsp)
 	movl	%eax, 8(%rsp)
-	movl	$112, %edi
+	movl	$120, %edi
 	movl	$8, %esi
 	callq	_kdr_0_1_0_alloc
 	testb	$1, %al
@@ -1690,6 +1724,7 @@ L0_1_0_handle_new_35:
 	movl	%ecx, 92(%rdx)
 	xorps	%xmm0, %xmm0
 	movups	%xmm0, 96(%rdx)
+	movq	$0, 112(%rdx)
 	movl	$16, %edi
 	movl	$8, %esi
 	callq	_kdr_0_1_0_alloc
@@ -2068,7 +2103,7 @@ _kdr_0_1_0_pool_drop:
 	movq	(%rdi), %rdi
 	movq	$0, (%r14)
 	testq	%rdi, %rdi
-	je	L0_1_0_pool_drop_3
+	je	L0_1_0_pool_drop_5
 	movq	32(%rdi), %rbx
 	movzbl	40(%rdi), %r13d
 	movzbl	48(%rdi), %ebp
@@ -2076,13 +2111,13 @@ _kdr_0_1_0_pool_drop:
 	movq	64(%rdi), %r12
 	callq	_kdr_0_1_0_dealloc
 	cmpb	$1, %r13b
-	jne	L0_1_0_pool_drop_4
+	jne	L0_1_0_pool_drop_6
 	cmpb	$1, %bpl
-	jne	L0_1_0_pool_drop_7
+	jne	L0_1_0_pool_drop_9
 	movq	16(%r15), %rax
 	cmpb	$0, (%rax,%r12)
 	movb	$1, (%rax,%r12)
-	jne	L0_1_0_pool_drop_9
+	jne	L0_1_0_pool_drop_11
 	movl	$1, %eax
 	movl	%r12d, %ecx
 	shll	%cl, %eax
@@ -2092,14 +2127,26 @@ _kdr_0_1_0_pool_drop:
 	shrq	$5, %r12
 	lock xaddq	%rcx, (%rax,%r12,8)
 	testl	%ecx, %ecx
-	jne	L0_1_0_pool_drop_1
+	jne	L0_1_0_pool_drop_3
 	movq	96(%r15), %rax
 	cmpq	%r12, %rax
 	je	L0_1_0_pool_drop_1
-	xchgq	%r12, 96(%r15)
+	movq	%r12, %rax
+	xchgq	%rax, 96(%r15)
 L0_1_0_pool_drop_1:
-	lock decq	(%r15)
+	movq	104(%r15), %rax
+	cmpq	%rax, %r12
+	jae	L0_1_0_pool_drop_3
+	.byte 0x66, 0x66, 0x2e, 0x0f, 0x1f, 0x84, 0x00, 0x00, 0x00, 0x00, 0x00 # nopw %cs:(%rax,%rax)
+L0_1_0_pool_drop_2:
+	movq	104(%r15), %rax
+	cmpq	%rax, %r12
+	jae	L0_1_0_pool_drop_3
+	lock cmpxchgq	%r12, 104(%r15)
 	jne	L0_1_0_pool_drop_2
+L0_1_0_pool_drop_3:
+	lock decq	(%r15)
+	jne	L0_1_0_pool_drop_4
 	movq	40(%r15), %r12
 	movq	56(%r15), %r13
 	movq	%r15, %rdi
@@ -2108,26 +2155,26 @@ L0_1_0_pool_drop_1:
 	callq	_kdr_0_1_0_dealloc
 	movq	%r13, %rdi
 	callq	_kdr_0_1_0_dealloc
-L0_1_0_pool_drop_2:
+L0_1_0_pool_drop_4:
 	cmpq	$0, (%r14)
 	movq	$0, (%r14)
-	jne	L0_1_0_pool_drop_9
+	jne	L0_1_0_pool_drop_11
 	xorl	%eax, %eax
 	lock decq	(%rbx)
-	je	L0_1_0_pool_drop_5
-	jmp	L0_1_0_pool_drop_6
-L0_1_0_pool_drop_3:
-	movl	$4, %eax
-	jmp	L0_1_0_pool_drop_6
-L0_1_0_pool_drop_4:
-	xorl	%eax, %eax
-	lock decq	(%rbx)
-	jne	L0_1_0_pool_drop_6
+	je	L0_1_0_pool_drop_7
+	jmp	L0_1_0_pool_drop_8
 L0_1_0_pool_drop_5:
+	movl	$4, %eax
+	jmp	L0_1_0_pool_drop_8
+L0_1_0_pool_drop_6:
+	xorl	%eax, %eax
+	lock decq	(%rbx)
+	jne	L0_1_0_pool_drop_8
+L0_1_0_pool_drop_7:
 	movq	%rbx, %rdi
 	callq	_kdr_0_1_0_dealloc
 	xorl	%eax, %eax
-L0_1_0_pool_drop_6:
+L0_1_0_pool_drop_8:
 	addq	$8, %rsp
 	.cfi_def_cfa_offset 56
 	popq	%rbx
@@ -2156,12 +2203,12 @@ L0_1_0_pool_drop_6:
 	.cfi_offset %r13, -40
 	.cfi_offset %r12, -48
 	.cfi_offset %rbx, -56
-L0_1_0_pool_drop_7:
+L0_1_0_pool_drop_9:
 	cmpq	$0, (%r14)
 	movq	$0, (%r14)
-	jne	L0_1_0_pool_drop_9
+	jne	L0_1_0_pool_drop_11
 	lock decq	(%r15)
-	jne	L0_1_0_pool_drop_8
+	jne	L0_1_0_pool_drop_10
 	movq	40(%r15), %r14
 	movq	56(%r15), %r12
 	movq	%r15, %rdi
@@ -2170,12 +2217,12 @@ L0_1_0_pool_drop_7:
 	callq	_kdr_0_1_0_dealloc
 	movq	%r12, %rdi
 	callq	_kdr_0_1_0_dealloc
-L0_1_0_pool_drop_8:
+L0_1_0_pool_drop_10:
 	xorl	%eax, %eax
 	lock decq	(%rbx)
-	je	L0_1_0_pool_drop_5
-	jmp	L0_1_0_pool_drop_6
-L0_1_0_pool_drop_9:
+	je	L0_1_0_pool_drop_7
+	jmp	L0_1_0_pool_drop_8
+L0_1_0_pool_drop_11:
 	ud2
 	.cfi_endproc
 
@@ -2577,7 +2624,7 @@ _kdr_0_1_0_pool_return:
 	movq	$0, (%rdi)
 	movl	$4, %eax
 	testq	%rdx, %rdx
-	je	L0_1_0_pool_return_3
+	je	L0_1_0_pool_return_5
 	movzbl	48(%rdx), %r8d
 	movq	56(%rdx), %rsi
 	movq	64(%rdx), %rcx
@@ -2585,13 +2632,13 @@ _kdr_0_1_0_pool_return:
 	cmpb	$0, 40(%rdx)
 	movups	%xmm0, 40(%rdx)
 	movups	%xmm0, 56(%rdx)
-	je	L0_1_0_pool_return_2
-	testb	%r8b, %r8b
 	je	L0_1_0_pool_return_4
+	testb	%r8b, %r8b
+	je	L0_1_0_pool_return_6
 	movq	16(%rsi), %rax
 	cmpb	$0, (%rax,%rcx)
 	movb	$1, (%rax,%rcx)
-	jne	L0_1_0_pool_return_5
+	jne	L0_1_0_pool_return_7
 	movl	$1, %eax
 	shll	%cl, %eax
 	movabsq	$4294967296, %r8        # imm = 0x100000000
@@ -2600,26 +2647,38 @@ _kdr_0_1_0_pool_return:
 	shrq	$5, %rcx
 	lock xaddq	%r8, (%rax,%rcx,8)
 	testl	%r8d, %r8d
-	jne	L0_1_0_pool_return_1
+	jne	L0_1_0_pool_return_3
 	movq	96(%rsi), %rax
 	cmpq	%rcx, %rax
 	je	L0_1_0_pool_return_1
-	xchgq	%rcx, 96(%rsi)
+	movq	%rcx, %rax
+	xchgq	%rax, 96(%rsi)
 L0_1_0_pool_return_1:
+	movq	104(%rsi), %rax
+	cmpq	%rax, %rcx
+	jae	L0_1_0_pool_return_3
+	.byte 0x66, 0x66, 0x2e, 0x0f, 0x1f, 0x84, 0x00, 0x00, 0x00, 0x00, 0x00 # nopw %cs:(%rax,%rax)
+L0_1_0_pool_return_2:
+	movq	104(%rsi), %rax
+	cmpq	%rax, %rcx
+	jae	L0_1_0_pool_return_3
+	lock cmpxchgq	%rcx, 104(%rsi)
+	jne	L0_1_0_pool_return_2
+L0_1_0_pool_return_3:
 	cmpb	$0, 40(%rdx)
 	movq	$1, 40(%rdx)
 	movq	$0, 48(%rdx)
 	movq	%rsi, 56(%rdx)
 	movq	$0, 64(%rdx)
-	jne	L0_1_0_pool_return_5
+	jne	L0_1_0_pool_return_7
 	xorl	%eax, %eax
-L0_1_0_pool_return_2:
+L0_1_0_pool_return_4:
 	cmpq	$0, (%rdi)
 	movq	%rdx, (%rdi)
-	jne	L0_1_0_pool_return_5
-L0_1_0_pool_return_3:
+	jne	L0_1_0_pool_return_7
+L0_1_0_pool_return_5:
 	retq
-L0_1_0_pool_return_4:
+L0_1_0_pool_return_6:
 	movq	$1, 40(%rdx)
 	movq	$0, 48(%rdx)
 	movq	%rsi, 56(%rdx)
@@ -2627,8 +2686,8 @@ L0_1_0_pool_return_4:
 	cmpq	$0, (%rdi)
 	movq	%rdx, (%rdi)
 	movl	$3, %eax
-	je	L0_1_0_pool_return_3
-L0_1_0_pool_return_5:
+	je	L0_1_0_pool_return_5
+L0_1_0_pool_return_7:
 	ud2
 	.cfi_endproc
 
@@ -2700,61 +2759,73 @@ _kdr_0_1_0_place_return:
 	movq	(%rdi), %rdx
 	movq	$0, (%rdi)
 	testq	%rdx, %rdx
-	je	L0_1_0_place_return_2
+	je	L0_1_0_place_return_4
 	movzbl	40(%rdx), %ecx
 	movl	$4, %eax
 	testb	%cl, %cl
-	je	L0_1_0_place_return_4
+	je	L0_1_0_place_return_6
 	cmpb	$1, %cl
-	jne	L0_1_0_place_return_4
+	jne	L0_1_0_place_return_6
 	movq	(%rsi), %rcx
 	testq	%rcx, %rcx
-	je	L0_1_0_place_return_3
+	je	L0_1_0_place_return_5
 	movq	8(%rsi), %r8
 	movl	$8, %eax
 	cmpq	24(%rdx), %r8
-	jne	L0_1_0_place_return_4
+	jne	L0_1_0_place_return_6
 	movq	56(%rdx), %r8
 	movl	$9, %eax
 	cmpq	%rcx, 72(%r8)
-	jb	L0_1_0_place_return_4
+	jb	L0_1_0_place_return_6
 	xorps	%xmm0, %xmm0
 	movups	%xmm0, (%rsi)
-	movq	56(%rdx), %rax
-	movq	16(%rax), %r8
-	cmpb	$0, -1(%r8,%rcx)
-	movb	$1, -1(%r8,%rcx)
-	jne	L0_1_0_place_return_5
+	movq	56(%rdx), %r8
+	movq	16(%r8), %rax
+	cmpb	$0, -1(%rax,%rcx)
+	movb	$1, -1(%rax,%rcx)
+	jne	L0_1_0_place_return_7
 	decq	%rcx
-	movl	$1, %r8d
-	shll	%cl, %r8d
+	movl	$1, %eax
+	shll	%cl, %eax
 	movabsq	$4294967296, %r9        # imm = 0x100000000
-	orq	%r8, %r9
-	movq	8(%rax), %r8
+	orq	%rax, %r9
+	movq	8(%r8), %rax
 	shrq	$5, %rcx
-	lock xaddq	%r9, (%r8,%rcx,8)
+	lock xaddq	%r9, (%rax,%rcx,8)
 	testl	%r9d, %r9d
-	jne	L0_1_0_place_return_1
-	movq	96(%rax), %r8
-	cmpq	%rcx, %r8
+	jne	L0_1_0_place_return_3
+	movq	96(%r8), %rax
+	cmpq	%rcx, %rax
 	je	L0_1_0_place_return_1
-	xchgq	%rcx, 96(%rax)
+	movq	%rcx, %rax
+	xchgq	%rax, 96(%r8)
 L0_1_0_place_return_1:
+	movq	104(%r8), %rax
+	cmpq	%rax, %rcx
+	jae	L0_1_0_place_return_3
+L0_1_0_place_return_2:
+	movq	104(%r8), %rax
+	cmpq	%rax, %rcx
+	jae	L0_1_0_place_return_3
+	lock cmpxchgq	%rcx, 104(%r8)
+	jne	L0_1_0_place_return_2
+L0_1_0_place_return_3:
+	xorps	%xmm0, %xmm0
 	movups	%xmm0, (%rsi)
 	xorl	%eax, %eax
 	cmpq	$0, (%rdi)
 	movq	%rdx, (%rdi)
-	jne	L0_1_0_place_return_5
+	jne	L0_1_0_place_return_7
 	retq
-L0_1_0_place_return_2:
+L0_1_0_place_return_4:
 	movl	$4, %eax
 	retq
-L0_1_0_place_return_3:
+L0_1_0_place_return_5:
 	movl	$3, %eax
-L0_1_0_place_return_4:
+L0_1_0_place_return_6:
 	movq	%rdx, (%rdi)
 	retq
-L0_1_0_place_return_5:
+L0_1_0_place_return_7:
 	ud2
 	.cfi_endproc
 

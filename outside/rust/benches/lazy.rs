@@ -2,7 +2,7 @@
 //! threads that wait for few items get one, beside two pools as others have them: a vector behind a
 //! mutex with a condition variable, and one beside a fair semaphore. Of many short rounds, by turns,
 //! the least time is told. `KUNDRATU_BENCH_TURNS` says how many turns all rounds of a thread have,
-//! where it isn't 1,000,000.
+//! where it isn't 1,000,000. `cargo bench --bench lazy -- pulls`, `first` or `waits` runs that part.
 use kundratu_pool::{LazyPool, Pool};
 use std::collections::VecDeque;
 use std::env;
@@ -240,7 +240,17 @@ fn main() {
     let turns = env::var("KUNDRATU_BENCH_TURNS").map_or(1_000_000, |turns| {
         turns.parse().expect("KUNDRATU_BENCH_TURNS is a number")
     });
-    pulls(turns);
-    first_pulls();
-    waits(turns);
+    let words: Vec<_> = env::args().skip(1).collect();
+    let parts = ["pulls", "first", "waits"];
+    let is_named = |part: &str| words.iter().any(|word| word == part);
+    let is_asked = |part| is_named(part) || !parts.into_iter().any(is_named);
+    if is_asked("pulls") {
+        pulls(turns);
+    }
+    if is_asked("first") {
+        first_pulls();
+    }
+    if is_asked("waits") {
+        waits(turns);
+    }
 }

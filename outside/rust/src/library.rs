@@ -1,17 +1,55 @@
 //! A pool of the proved library, and whether it has a free place.
-use crate::atomics::{AtomicUsize, Ordering::SeqCst};
-use crate::sys::{self, Handle, PAGE};
+pub(crate) mod calls;
+
+use crate::atomics::{self, AtomicUsize, Ordering::SeqCst, Step};
+use calls::{Handle, PAGE};
 use std::ptr;
 use std::sync::{Mutex, PoisonError};
 
-/// What `Library::returned` is if no place can be found, and if one may be. It may be where a mark
-/// stands in place of these two. It is the address of a handle that one call at a time has.
+/// The right to a place, which is held. What returns the place or keeps it spends this.
+#[derive(Debug, PartialEq)]
+pub struct Place(usize);
+
+impl Place {
+    /// Takes over the right to the place of this number.
+    ///
+    /// # Safety
+    ///
+    /// The place was pulled, and nobody else has it.
+    #[inline(always)]
+    pub(crate) unsafe fn held(number: usize) -> Place {
+        Place(number)
+    }
+
+    #[inline(always)]
+    pub(crate) fn number(&self) -> usize {
+        self.0
+    }
+}
+
+/// A handle of a pool of the library. An empty one stands for that which threads share.
+pub(crate) struct OwnHandle(Option<Handle>);
+
+impl OwnHandle {
+    pub(crate) fn empty() -> OwnHandle {
+        OwnHandle(None)
+    }
+
+    #[inline(always)]
+    pub(crate) fn is_open(&self) -> bool {
+        self.0.is_some()
+    }
+
+    /// Returns an address that only this call has while it goes on.
+    fn mark(&mut self) -> usize {
+        ptr::from_mut(self) as usize
+    }
+}
+
+/// What `Library::returned` is if no place can be found, and if one may be. It may be where the mark
+/// of a call stands in place of these two.
 const NONE: usize = 0;
 const SOME: usize = 1;
-
-fn mark(handle: &mut Option<Handle>) -> usize {
-    ptr::from_mut(handle) as usize
-}
 
 /// A pool of the library, and a handle of it that threads share where they have none of their own.
 pub(crate) struct Library {
@@ -29,7 +67,7 @@ impl Library {
     /// Creates a pool of so many places, which are free. `None` if memory is refused.
     pub(crate) fn new(places: usize) -> Option<Library> {
         Some(Library {
-            shared: Mutex::new(sys::open(places)?),
+            shared: Mutex::new(calls::open(places)?),
             places,
             returned: AtomicUsize::new(SOME),
         })
@@ -37,64 +75,62 @@ impl Library {
 
     /// Creates a pool of so many places, which are held. `None` if memory is refused.
     pub(crate) fn held(places: usize) -> Option<Library> {
-        let mut handle = sys::open(places)?;
+        let mut library = Library::new(places)?;
+        let shared = library
+            .shared
+            .get_mut()
+            .unwrap_or_else(PoisonError::into_inner);
         for place in 0..places {
-            handle.pull(place / PAGE);
+            shared.pull(place / PAGE);
         }
-        Some(Library {
-            shared: Mutex::new(handle),
-            places,
-            returned: AtomicUsize::new(NONE),
-        })
+        library.returned = AtomicUsize::new(NONE);
+        Some(library)
     }
 
-    /// Returns how many places there are.
     #[inline(always)]
     pub(crate) fn places(&self) -> usize {
         self.places
     }
 
-    /// Opens a handle. `None` if memory is refused.
+    /// Opens a handle. It is empty if memory is refused.
     #[cold]
-    pub(crate) fn open(&self) -> Option<Handle> {
-        self.with_shared(Handle::share)
+    pub(crate) fn open(&self) -> OwnHandle {
+        OwnHandle(self.with_shared(Handle::share))
     }
 
     #[inline(never)]
     fn with_shared<A>(&self, call: impl FnOnce(&mut Handle) -> A) -> A {
-        #[cfg(test)]
-        crate::tests::locks();
+        atomics::before(Step::Locks);
         call(&mut self.shared.lock().unwrap_or_else(PoisonError::into_inner))
     }
 
-    /// Returns whether a place may be found.
     #[inline(always)]
     pub(crate) fn may_have_some(&self) -> bool {
         self.returned.load(SeqCst) != NONE
     }
 
-    /// Pulls a place by a handle of this pool, or by the shared one if it is empty. It begins at
-    /// this page. `None` if at one moment all were out, but those whose return wasn't over.
+    /// Pulls a place by a handle of this pool. It begins at this page. `None` if at one moment all
+    /// were out, but those whose return wasn't over.
     #[inline(always)]
-    pub(crate) fn pull(&self, own: &mut Option<Handle>, page: usize) -> Option<usize> {
+    pub(crate) fn pull(&self, own: &mut OwnHandle, page: usize) -> Option<Place> {
         let place = self.pull_once(own, page);
         place.or_else(|| self.pull_again(own, page))
     }
 
     /// Pulls a place as `pull` does. If there is none, it doesn't say so.
     #[inline(always)]
-    pub(crate) fn pull_once(&self, own: &mut Option<Handle>, page: usize) -> Option<usize> {
+    pub(crate) fn pull_once(&self, own: &mut OwnHandle, page: usize) -> Option<Place> {
         let look = || self.look(own, page);
         self.may_have_some().then(look).flatten()
     }
 
     /// Pulls a place as `pull` does. If there is none, it says so.
     #[inline(never)]
-    pub(crate) fn pull_again(&self, own: &mut Option<Handle>, page: usize) -> Option<usize> {
+    pub(crate) fn pull_again(&self, own: &mut OwnHandle, page: usize) -> Option<Place> {
         if !self.may_have_some() {
             return None;
         }
-        let ours = mark(own);
+        let ours = own.mark();
         self.returned.store(ours, SeqCst);
         let place = self.look(own, page);
         if place.is_none() {
@@ -104,48 +140,41 @@ impl Library {
         place
     }
 
-    /// Asks the library for a place.
     #[inline(always)]
-    fn look(&self, own: &mut Option<Handle>, page: usize) -> Option<usize> {
-        #[cfg(test)]
-        crate::tests::step();
-        let place = match own {
+    fn look(&self, own: &mut OwnHandle, page: usize) -> Option<Place> {
+        let place = atomics::look(|| match &mut own.0 {
             Some(own) => own.pull(page),
             None => self.with_shared(|shared| shared.pull(page)),
-        };
-        #[cfg(test)]
-        crate::tests::looked(place.is_some());
-        place
+        });
+        place.map(Place)
     }
 
-    /// Returns a place by a handle of this pool, or by the shared one if it is empty. If it wasn't
-    /// known that one may be found, it makes this call before that is said.
+    /// Returns a place. If it wasn't known that one may be found, it makes this call before that is
+    /// said.
     ///
     /// # Safety
     ///
-    /// The handle is of this pool or empty. The place was pulled here, and is returned once.
+    /// The handle and the place are of this pool.
     #[inline(always)]
     pub(crate) unsafe fn give_back(
         &self,
-        own: &mut Option<Handle>,
-        place: usize,
+        own: &mut OwnHandle,
+        Place(place): Place,
         before_it_is_said: impl FnOnce(),
     ) {
-        #[cfg(test)]
-        crate::tests::returns();
+        atomics::before(Step::Returns);
         #[allow(unused_unsafe)] // the call in Rust is safe
-        // SAFETY: the shared handle is of this pool, and the caller says the rest.
+        // SAFETY: the place is out, of this pool, and so is the shared handle.
         let give_back = |handle: &mut Handle| unsafe { handle.give_back(place) };
-        match own {
+        match &mut own.0 {
             Some(own) => give_back(own),
             None => self.with_shared(give_back),
         }
         if self.returned.load(SeqCst) != SOME {
-            self.say_returned(mark(own), before_it_is_said);
+            self.say_returned(own.mark(), before_it_is_said);
         }
     }
 
-    /// Says that a place was returned.
     #[inline(never)]
     fn say_returned(&self, mark: usize, before_it_is_said: impl FnOnce()) {
         self.returned.store(mark, SeqCst);

@@ -1,4 +1,5 @@
 //! A box that is set once, and never waited for.
+use crate::atomics::{self, Step};
 use std::marker::PhantomData;
 use std::ptr::{self, NonNull};
 use std::sync::atomic::{AtomicPtr, Ordering::AcqRel, Ordering::Acquire};
@@ -12,7 +13,6 @@ pub(crate) struct OnceBox<T> {
 }
 
 impl<T> OnceBox<T> {
-    /// Creates an empty box.
     pub(crate) const fn new() -> OnceBox<T> {
         OnceBox {
             set: AtomicPtr::new(ptr::null_mut()),
@@ -20,7 +20,6 @@ impl<T> OnceBox<T> {
         }
     }
 
-    /// Returns the value, if it is set.
     #[inline(always)]
     pub(crate) fn get(&self) -> Option<&T> {
         let set = NonNull::new(self.set.load(Acquire))?;
@@ -31,8 +30,7 @@ impl<T> OnceBox<T> {
 
     /// Sets the value if none is set, and returns the one that is. `None` if memory is refused.
     pub(crate) fn set(&self, value: T) -> Option<&T> {
-        #[cfg(test)]
-        crate::tests::sets();
+        atomics::before(Step::Sets);
         let made = Box::into_raw(boxed(value)?);
         let result = self
             .set

@@ -50,7 +50,6 @@ impl Pulled {
         self.0.fetch_add(more as usize, Relaxed);
     }
 
-    /// Returns the sum of these counts.
     pub(crate) fn sum<'c>(counts: impl Iterator<Item = &'c Pulled>) -> usize {
         counts.fold(0, |sum, count| sum.wrapping_add(count.0.load(Relaxed)))
     }

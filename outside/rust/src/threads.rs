@@ -4,10 +4,11 @@
 //! which the thread holds from its first call to its end.
 #[cfg(all(target_os = "linux", target_env = "gnu"))]
 mod late;
+pub(crate) mod slots;
 
-use crate::growing::Growing;
+use crate::library::calls::Handle;
+use crate::places::growing::Growing;
 use crate::refuse;
-use crate::sys::Handle;
 use std::cell::{Cell, RefCell};
 use std::marker::PhantomData;
 use std::sync::{Mutex, MutexGuard, PoisonError, Weak};
@@ -113,7 +114,6 @@ pub(crate) struct Owned<T> {
 unsafe impl<T: Send> Sync for Owned<T> {}
 
 impl<T> Owned<T> {
-    /// Creates the value of this number.
     pub(crate) fn new(number: &Number, value: T) -> Owned<T> {
         Owned {
             number: number.0,
@@ -169,7 +169,7 @@ pub(crate) unsafe fn return_number(number: usize) {
         .map_or(0, |group| group as usize + 1);
     if let Some(numbers) = &mut *lock(pool) {
         #[allow(unused_unsafe)] // the call in Rust is safe
-        // SAFETY: the caller says it.
+        // SAFETY: the caller says that it was pulled, and is returned once.
         unsafe {
             numbers.give_back(number - before(pool));
         }

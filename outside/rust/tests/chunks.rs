@@ -40,12 +40,15 @@ fn an_item_is_made_only_where_all_that_were_made_are_held() {
     }
 }
 
-/// A part is used up before the next one is made, which has twice as many places.
+/// A part is used up before the next one is made, which has twice as many places, or as many as one
+/// of the three before it.
 #[test]
 fn each_place_of_a_part_is_used() {
     let pool = LinearObjectPool::<u32>::new(|| 0, |_| ());
     let mut items = Vec::new();
-    for room in [8, 24, 56, 120] {
+    for room in [
+        8, 24, 56, 120, 248, 504, 1_016, 1_528, 2_040, 2_552, 3_576, 4_600,
+    ] {
         items.resize_with(room, || pool.pull());
         assert_eq!((pool.status().items, pool.status().made), (room, room));
     }

@@ -1,7 +1,7 @@
 //! The atomics of the code under test. Each use of them is a step, before which others may take
 //! theirs. In a thread that delays its writes, as processors do, others see a write of it that isn't
 //! sequentially consistent at its next fence, or at its next step that reads and writes.
-use super::tests::step;
+use super::tests::{locks, looked, returns, sets, step};
 use std::cell::{Cell, RefCell};
 use std::sync::atomic;
 pub(crate) use std::sync::atomic::Ordering;
@@ -14,6 +14,27 @@ thread_local! {
 
 /// A write that no other thread has seen: where, of what, and how it is made.
 struct Delayed(usize, u64, Box<dyn FnOnce()>);
+
+pub(crate) enum Step {
+    Returns,
+    Locks,
+    Sets,
+}
+
+pub(crate) fn before(step: Step) {
+    match step {
+        Step::Returns => returns(),
+        Step::Locks => locks(),
+        Step::Sets => sets(),
+    }
+}
+
+pub(crate) fn look<P>(look: impl FnOnce() -> Option<P>) -> Option<P> {
+    step();
+    let found = look();
+    looked(found.is_some());
+    found
+}
 
 /// From now on this thread delays its writes, or not.
 pub(crate) fn delay(delays: bool) {

@@ -146,7 +146,7 @@ fn what_comes_to_the_pool_beside_a_pull_has_a_place_of_its_own() {
                 let status = pool.status();
                 assert_eq!(status.in_use, 0, "after {step} steps");
                 let all: Vec<_> = (0..2).map(|_| pool.pull().expect("it is free")).collect();
-                assert_ne!(all[0].place(), all[1].place());
+                assert_ne!(*all[0].at, *all[1].at);
                 assert!(pool.pull().is_err());
             }
         }

@@ -1,8 +1,8 @@
 //! The calls in Rust answer as the proved ones: random calls of some handles, of pools of many
 //! sizes, are refused or not alike, and have the same places.
-use crate::sys::{self, PAGE};
+use crate::library::calls::{self, PAGE};
 
-#[path = "../src/sys/portable.rs"]
+#[path = "../src/library/portable.rs"]
 mod portable;
 
 const HANDLES: usize = 4;
@@ -23,7 +23,7 @@ impl Numbers {
 
 /// A handle of both libraries, and which pool it is of.
 struct Both {
-    proved: sys::Handle,
+    proved: calls::Handle,
     portable: portable::Handle,
     pool: usize,
 }
@@ -42,7 +42,7 @@ impl Compared {
         self.pools += 1;
         let [proved, portable] = ["the proved one", "the one in Rust"];
         self.handles.push(Both {
-            proved: sys::Handle::new(size).expect(proved),
+            proved: calls::Handle::new(size).expect(proved),
             portable: portable::Handle::new(size).expect(portable),
             pool: self.pools,
         });
@@ -74,8 +74,11 @@ impl Compared {
         let found: Vec<_> = (0..self.places.len()).filter(of_pool).collect();
         if let Some(&held) = found.get(chosen % found.len().max(1)) {
             let (_, place) = self.places.swap_remove(held);
+            #[allow(unused_unsafe)] // the call in Rust is safe
             // SAFETY: the place is out of the handle's pool.
-            unsafe { both.proved.give_back(place) };
+            unsafe {
+                both.proved.give_back(place)
+            };
             both.portable.give_back(place);
         }
     }

@@ -16,6 +16,7 @@ thread_local! {
 
 unsafe extern "C" {
     fn __libc_malloc(bytes: usize) -> *mut c_void;
+    fn __libc_calloc(count: usize, bytes: usize) -> *mut c_void;
     fn __libc_realloc(block: *mut c_void, bytes: usize) -> *mut c_void;
     fn __libc_memalign(align: usize, bytes: usize) -> *mut c_void;
     fn __libc_free(block: *mut c_void);
@@ -35,6 +36,15 @@ extern "C" fn malloc(bytes: usize) -> *mut c_void {
     HELD.set(HELD.get() + 1);
     let block = ask(|| unsafe { __libc_malloc(bytes) });
     HELD.set(HELD.get() - isize::from(block.is_null()));
+    block
+}
+
+/// Rust asks for zeros byte by byte. What else asks is the C library itself, which is refused none.
+#[unsafe(no_mangle)]
+extern "C" fn calloc(count: usize, bytes: usize) -> *mut c_void {
+    let give = || unsafe { __libc_calloc(count, bytes) };
+    let block = if bytes == 1 { ask(give) } else { give() };
+    HELD.set(HELD.get() + isize::from(!block.is_null()));
     block
 }
 

@@ -1,0 +1,274 @@
+//! Which places of a fixed number are held. A thread keeps one that it returned, where others may
+//! take it: so a pull is refused only if all places were out at one moment.
+use super::kept::Kept;
+use crate::atomics::{fence, Ordering::SeqCst};
+use crate::library::calls::PAGE;
+use crate::library::{Library, OwnHandle, Place};
+use crate::places::slots::OwnLines;
+use crate::pools::pool::NewError;
+use crate::status::Pulled;
+use crate::threads::slots::ThreadSlots;
+use crate::threads::{self, Number, Owned};
+use std::cell::{Cell, RefCell};
+
+/// How many places a thread pulls at one page, if others return them.
+const TOGETHER: isize = 4;
+
+/// The places of a pool.
+pub(crate) struct Fixed {
+    library: OwnLines<Library>,
+    thread_slots: ThreadSlots<OwnLines<ThreadSlot>>,
+    /// What threads without a slot pulled.
+    pulled: Pulled,
+}
+
+/// What a thread has of the pool. What it keeps lies first: tests of order look for it there.
+#[repr(C)]
+struct ThreadSlot {
+    kept: Kept,
+    pulled: Pulled,
+    own: Owned<Own>,
+}
+
+/// What other threads don't reach.
+struct Own {
+    /// What the thread slot's `Kept` is while it has no place.
+    empty: Cell<u64>,
+    way: RefCell<Way>,
+}
+
+/// How a thread comes to places that it doesn't keep.
+struct Way {
+    handle: OwnHandle,
+    /// At which page the next pull begins.
+    page: usize,
+    /// Where the thread began, and how often it moved.
+    begin: usize,
+    moves: usize,
+    /// How many more places are pulled than returned until the next move.
+    left: isize,
+}
+
+impl Fixed {
+    /// Creates so many free places.
+    ///
+    /// # Errors
+    ///
+    /// `NoItems` if there are none, or `Memory`.
+    pub(crate) fn new(places: usize) -> Result<Fixed, NewError> {
+        if places == 0 {
+            return Err(NewError::NoItems);
+        }
+        Ok(Fixed {
+            library: OwnLines(Library::new(places).ok_or(NewError::Memory)?),
+            thread_slots: ThreadSlots::new(),
+            pulled: Pulled::new(),
+        })
+    }
+
+    pub(crate) fn places(&self) -> usize {
+        self.library.0.places()
+    }
+
+    /// Returns how many places were pulled and not returned, as each thread counts it.
+    pub(crate) fn pulled(&self) -> usize {
+        let of_threads = self.thread_slots.all().map(|slot| &slot.0.pulled);
+        Pulled::sum(of_threads.chain([&self.pulled]))
+    }
+
+    /// Pulls a place. `None` if all were out at one moment.
+    #[inline(always)]
+    pub(crate) fn pull(&self) -> Option<Place> {
+        let kept = threads::with_known(|number| self.thread_slots.get(number)?.0.take_own(number));
+        kept.or_else(|| self.pull_further())
+    }
+
+    /// Pulls a place that the thread doesn't keep.
+    #[inline(never)]
+    fn pull_further(&self) -> Option<Place> {
+        threads::with(|number| match number.and_then(|number| self.own(number)) {
+            Some((thread_slot, own)) => {
+                let way = &mut *own.way.borrow_mut();
+                let place = way.pull(&self.library.0);
+                let place = place.or_else(|| self.look(&mut way.handle))?;
+                thread_slot.pulled.add_own(1);
+                Some(place)
+            }
+            None => {
+                let place = self.look(&mut OwnHandle::empty())?;
+                self.pulled.add(1);
+                Some(place)
+            }
+        })
+    }
+
+    /// Returns a place.
+    ///
+    /// # Safety
+    ///
+    /// The place is of this pool.
+    #[inline(always)]
+    pub(crate) unsafe fn give_back(&self, place: Place) {
+        let kept = threads::with_known(|number| match self.thread_slots.get(number) {
+            Some(thread_slot) => thread_slot.0.keep(place, number),
+            None => Err(place),
+        });
+        if let Err(place) = kept {
+            // SAFETY: the caller says that it is of this pool.
+            unsafe { self.give_back_further(place) };
+        }
+    }
+
+    /// Returns a place that the thread doesn't keep.
+    ///
+    /// # Safety
+    ///
+    /// The place is of this pool.
+    #[inline(never)]
+    unsafe fn give_back_further(&self, place: Place) {
+        // SAFETY: the handles below are of this pool, and the caller says it of the place.
+        let give_back = |handle: &mut _| unsafe { self.library.0.give_back(handle, place, || ()) };
+        threads::with(|number| match number.and_then(|number| self.own(number)) {
+            Some((thread_slot, own)) => {
+                let way = &mut *own.way.borrow_mut();
+                way.left += 1;
+                thread_slot.pulled.add_own(-1);
+                give_back(&mut way.handle);
+            }
+            None => {
+                self.pulled.add(-1);
+                give_back(&mut OwnHandle::empty());
+            }
+        });
+    }
+
+    /// Returns what a thread has, which is made if it isn't there. `None` if memory is refused.
+    fn own<'o>(&'o self, number: &'o Number) -> Option<(&'o ThreadSlot, &'o Own)> {
+        let thread_slot = match self.thread_slots.get(number) {
+            Some(thread_slot) => &thread_slot.0,
+            None => self.new_thread_slot(number)?,
+        };
+        Some((thread_slot, thread_slot.own.get(number)))
+    }
+
+    #[cold]
+    fn new_thread_slot(&self, number: &Number) -> Option<&ThreadSlot> {
+        let pages = self.places().div_ceil(PAGE);
+        let mut way = Way::new(number.get(), pages);
+        way.handle = self.library.0.open();
+        let own = Own {
+            empty: Cell::new(Kept::NONE),
+            way: RefCell::new(way),
+        };
+        let thread_slot = OwnLines(ThreadSlot {
+            kept: Kept::new(),
+            pulled: Pulled::new(),
+            own: Owned::new(number, own),
+        });
+        let made = self.thread_slots.make(number, thread_slot)?;
+        Some(&made.0)
+    }
+
+    /// Pulls a place that a thread keeps or that the library has. `None` if all were out at a moment
+    /// of the library's refusal: no thread kept a place then, since none did before and after it,
+    /// and none kept one between.
+    ///
+    /// A thread keeps a place by a plain write, which it makes known before it looks itself. So of
+    /// two threads that return something and then look for what the other one returned, one finds it.
+    #[cold]
+    #[inline(never)]
+    fn look(&self, handle: &mut OwnHandle) -> Option<Place> {
+        fence(SeqCst);
+        let mut before = self.take_kept();
+        loop {
+            let Err(count) = before else {
+                return before.ok();
+            };
+            if let Some(place) = self.library.0.pull_again(handle, 0) {
+                return Some(place);
+            }
+            before = self.take_kept();
+            if before == Err(count) {
+                return None;
+            }
+        }
+    }
+
+    /// Takes a place that a thread keeps.
+    ///
+    /// # Errors
+    ///
+    /// How often threads kept a place until none did.
+    fn take_kept(&self) -> Result<Place, u64> {
+        let mut count = 0_u64;
+        for thread_slot in self.thread_slots.all() {
+            match thread_slot.0.kept.take() {
+                Ok(place) => return Ok(place),
+                Err(often) => count = count.wrapping_add(often),
+            }
+        }
+        Err(count)
+    }
+}
+
+impl ThreadSlot {
+    /// Takes the place that the thread keeps, for the thread itself.
+    #[inline(always)]
+    fn take_own(&self, number: &Number) -> Option<Place> {
+        let place = self.kept.take_own(self.own.get(number).empty.get())?;
+        self.pulled.add_own(1);
+        Some(place)
+    }
+
+    /// Keeps a place, if the thread keeps none.
+    #[inline(always)]
+    fn keep(&self, place: Place, number: &Number) -> Result<(), Place> {
+        self.kept.keep(place, &self.own.get(number).empty)?;
+        self.pulled.add_own(-1);
+        Ok(())
+    }
+}
+
+impl Way {
+    /// Creates the way of a thread to so many pages.
+    fn new(number: usize, pages: usize) -> Way {
+        // Threads begin so far apart that the words of their pages lie on cache lines of their own.
+        let far = if pages % 17 == 0 { 1 } else { 17 };
+        let begin = (number + 1) * far;
+        Way {
+            handle: OwnHandle::empty(),
+            page: begin % pages,
+            begin,
+            moves: 0,
+            left: TOGETHER,
+        }
+    }
+
+    /// Pulls a place of the library.
+    #[inline(always)]
+    fn pull(&mut self, library: &Library) -> Option<Place> {
+        let place = library.pull_once(&mut self.handle, self.page)?;
+        let page = place.number() / PAGE;
+        if page != self.page || self.left <= 1 {
+            self.go_on(page, library.places().div_ceil(PAGE));
+        }
+        self.left -= 1;
+        Some(place)
+    }
+
+    /// Finds where the next pull begins, after one of a place of this page.
+    #[inline(never)]
+    fn go_on(&mut self, page: usize, pages: usize) {
+        if page != self.page {
+            // Others come there too, so the next pull begins apart from them, behind that page or
+            // before it. If it finds nothing there, the thread keeps to the page of its place.
+            let apart = [self.begin, self.begin.wrapping_neg(), 0][self.moves % 3];
+            self.page = page.wrapping_add(apart) % pages;
+            self.moves += 1;
+        } else {
+            // Others return what this thread pulls, so it goes round some pages, apart from them.
+            (self.left, self.moves) = (TOGETHER + 1, self.moves + 1);
+            self.page = (self.begin + self.moves % 128 * 17) % pages;
+        }
+    }
+}

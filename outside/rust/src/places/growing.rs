@@ -1,0 +1,349 @@
+//! Which places of a pool that grows are held. A thread keeps some that it returned, by plain reads
+//! and writes. At its end it returns them.
+mod find;
+mod part;
+mod parts;
+mod thread_slot;
+
+use crate::atomics::AtomicUsize;
+use crate::atomics::{Ordering::Relaxed, Ordering::SeqCst};
+use crate::library::calls::PAGE;
+use crate::library::{OwnHandle, Place};
+use crate::places::slots::OwnLines;
+use crate::refuse;
+use crate::status;
+use crate::threads::slots::ThreadSlots;
+use crate::threads::{self, Number};
+use part::Part;
+pub(crate) use parts::{PartName, Parts};
+use std::ptr::NonNull;
+use std::sync::{Arc, Mutex};
+use thread_slot::{Mine, ThreadSlot, Way};
+
+/// The places of a pool.
+pub(crate) struct Growing {
+    parts: Parts<Part>,
+    thread_slots: ThreadSlots<OwnLines<ThreadSlot>>,
+    news: OwnLines<News>,
+}
+
+/// What who makes an item reads.
+struct News {
+    /// How often a part came to have a place that may be found. If no part had one, that is so until
+    /// there is one more change.
+    changes: AtomicUsize,
+    /// The places whose items weren't made, since `init` panicked, and how many they are.
+    bare: Mutex<Vec<usize>>,
+    bare_count: AtomicUsize,
+    /// What threads without a slot pulled.
+    pulled: status::Pulled,
+}
+
+/// The right to a place that was pulled just now, and whether there is an item.
+pub(crate) struct Pulled {
+    pub(crate) at: usize,
+    pub(crate) is_made: bool,
+}
+
+/// The right to a place, and where its item lies. What returns the place or keeps it spends this.
+pub(crate) struct Held {
+    pub(crate) at: usize,
+    pub(crate) item: NonNull<()>,
+}
+
+// SAFETY: only who has the place goes to the item, if that may be sent to where he is.
+unsafe impl Send for Held {}
+
+impl Pulled {
+    /// Takes over the right to a place that was returned to this part.
+    fn made(name: PartName, place: Place) -> Pulled {
+        let (at, is_made) = (name.at(place.number()), true);
+        Pulled { at, is_made }
+    }
+
+    /// Gives the right to a place that nobody had, or whose `init` panicked.
+    fn unmade(at: usize) -> Pulled {
+        let is_made = false;
+        Pulled { at, is_made }
+    }
+}
+
+impl Growing {
+    pub(crate) fn new() -> Growing {
+        Growing {
+            parts: Parts::new(),
+            thread_slots: ThreadSlots::new(),
+            news: OwnLines(News {
+                changes: AtomicUsize::new(0),
+                bare: Mutex::new(Vec::new()),
+                bare_count: AtomicUsize::new(0),
+                pulled: status::Pulled::new(),
+            }),
+        }
+    }
+
+    /// Returns how many places there are, how many of them have an item, and how many were pulled
+    /// and not returned, as each part and each thread counts it.
+    pub(crate) fn counts(&self) -> [usize; 3] {
+        let parts = || self.parts.all(0).map(|(_, part)| part);
+        let given: usize = parts().map(Part::given).sum();
+        let made = given.saturating_sub(self.news.0.bare_count.load(Relaxed));
+        let slots = || self.thread_slots.all().map(|slot| &slot.0);
+        let pulled = slots().map(|slot| &slot.pulled);
+        let pulled = status::Pulled::sum(pulled.chain([&self.news.0.pulled]));
+        let kept: usize = slots().map(ThreadSlot::kept).sum();
+        [
+            parts().map(|part| part.library.places()).sum(),
+            made,
+            pulled.wrapping_sub(kept),
+        ]
+    }
+
+    /// Counts that a thread pulled places of parts, or returned them there.
+    #[inline(always)]
+    fn count(&self, mine: Option<Mine<'_>>, more: isize) {
+        match mine {
+            Some(mine) => mine.slot.pulled.add_own(more),
+            None => self.news.0.pulled.add(more),
+        }
+    }
+
+    /// Pulls a place. `item` finds its item, if the thread doesn't keep it, and pulls it before if it
+    /// isn't pulled yet.
+    #[inline(always)]
+    pub(crate) fn pull(self: &Arc<Self>, item: impl Fn(Option<Pulled>) -> Held) -> Held {
+        threads::with_known(|number| {
+            let mine = self.mine(number);
+            let kept = mine.and_then(Mine::take);
+            kept.unwrap_or_else(|| self.pull_other(mine, item))
+        })
+    }
+
+    /// Pulls a place that the thread doesn't keep.
+    #[inline(never)]
+    fn pull_other<I: Fn(Option<Pulled>) -> Held>(
+        self: &Arc<Self>,
+        mine: Option<Mine<'_>>,
+        item: I,
+    ) -> Held {
+        // A thread that isn't noted has no counts of its own yet.
+        let mine = mine.filter(|mine| mine.is_noted());
+        if let Some(mine) = mine.filter(|mine| mine.only_pulls()) {
+            self.pull_ahead(mine, &item);
+            if let Some(held) = mine.take() {
+                return held;
+            }
+        }
+        let near = |mine| self.pull_near(mine).or_else(|| self.unmade_near(mine));
+        item(mine.and_then(near))
+    }
+
+    /// Pulls as many returned places as the thread may keep, but one. It only pulls, and who returns
+    /// places writes where it pulls them, so each of its pulls would wait for that.
+    #[inline(never)]
+    fn pull_ahead(&self, mine: Mine<'_>, item: impl Fn(Option<Pulled>) -> Held) {
+        while mine.has_room() {
+            let Some(pulled) = self.pull_near(mine) else {
+                break;
+            };
+            let kept = mine.keep(item(Some(pulled)));
+            debug_assert!(kept.is_ok(), "there was room");
+        }
+    }
+
+    /// Pulls a place that was returned, at the part of the thread's last pull, by its handle. `None`
+    /// if there is none of them.
+    #[inline(always)]
+    fn pull_near(&self, mine: Mine<'_>) -> Option<Pulled> {
+        let way = &mut *mine.way()?;
+        let (name, page) = (way.part?, way.page);
+        let part = self.part(name);
+        part.library.may_have_some().then_some(())?;
+        let place = part.library.pull(way.own_handle(name)?, page)?;
+        way.go_on(place.number() / PAGE, part.pages());
+        mine.count_pull();
+        self.count(Some(mine), 1);
+        Some(Pulled::made(name, place))
+    }
+
+    /// Pulls a place that was returned, or one without an item.
+    ///
+    /// # Errors
+    ///
+    /// The part that has to be made, if there is none. `None` if there are too many.
+    #[cold]
+    #[inline(never)]
+    pub(crate) fn pull_far(self: &Arc<Self>) -> Result<Pulled, Option<PartName>> {
+        threads::with(|number| {
+            let mine = number.and_then(|number| self.mine_or_new(number));
+            if let Some(mine) = mine.filter(|mine| !mine.is_noted()) {
+                self.note(mine); // where that is refused memory, it comes here again
+            }
+            let pulled = match mine.and_then(Mine::way) {
+                Some(mut way) => self.find_or_unmade(&mut way, mine),
+                None => self.find_or_unmade(&mut Way::new(PartName::first(0), false), None),
+            }?;
+            self.count(mine, 1);
+            Ok(pulled)
+        })
+    }
+
+    /// Returns a place, which the thread may keep.
+    ///
+    /// # Safety
+    ///
+    /// The place is of this pool.
+    #[inline(always)]
+    pub(crate) unsafe fn give_back(self: &Arc<Self>, held: Held) {
+        threads::with_known(|number| {
+            let mine = self.mine(number);
+            let kept = match mine {
+                Some(mine) => mine.keep(held),
+                None => Err(held),
+            };
+            if let Err(held) = kept {
+                // SAFETY: the caller says that it is of this pool.
+                unsafe { self.give_back_other(mine, held) };
+            }
+        });
+    }
+
+    /// Returns a place of a thread that keeps as many as it may, or isn't noted. If it only returns
+    /// places, so do those that it keeps but the last one: who pulls places writes where they go, so
+    /// each of many returns would wait for that.
+    ///
+    /// # Safety
+    ///
+    /// The place is of this pool.
+    #[inline(never)]
+    unsafe fn give_back_other(self: &Arc<Self>, mine: Option<Mine<'_>>, held: Held) {
+        // A thread that isn't noted keeps this one, which it doesn't count.
+        let mine = mine.filter(|mine| mine.is_noted());
+        // SAFETY: the caller says that it is of this pool.
+        unsafe { self.give_back_near(mine, held) };
+        if let Some(mine) = mine.filter(|mine| mine.count_return()) {
+            let last = mine.take();
+            self.return_all(mine);
+            last.into_iter().for_each(|last| _ = mine.keep(last)); // there is room
+        }
+    }
+
+    /// Returns a place by the thread's handle of its part. If there is none, the place is returned as
+    /// `give_back_far` does.
+    ///
+    /// # Safety
+    ///
+    /// The place is of this pool.
+    #[inline(always)]
+    unsafe fn give_back_near(self: &Arc<Self>, mine: Option<Mine<'_>>, held: Held) {
+        let mut way = mine.and_then(Mine::way);
+        let name = PartName::of(held.at).0;
+        match way.as_mut().and_then(|way| way.own_handle(name)) {
+            // SAFETY: the handle is of the place's part, and the caller says it of the place.
+            Some(handle) => unsafe { self.give_back_by(handle, mine, held) },
+            None => {
+                drop(way);
+                // SAFETY: the caller says that it is of this pool.
+                unsafe { self.give_back_far(held) }
+            }
+        }
+    }
+
+    /// Keeps a place of a thread that isn't noted, which is noted then. Else this returns it by a
+    /// handle of its part, which is opened if it isn't.
+    ///
+    /// # Safety
+    ///
+    /// The place is of this pool.
+    #[cold]
+    #[inline(never)]
+    unsafe fn give_back_far(self: &Arc<Self>, mut held: Held) {
+        threads::with(|number| {
+            let mine = number.and_then(|number| self.mine_or_new(number));
+            let first = mine.filter(|mine| !mine.is_noted() && self.note(*mine).is_some());
+            if let Some(mine) = first {
+                match mine.keep(held) {
+                    Ok(()) => return,
+                    Err(refused) => held = refused,
+                }
+            }
+            let mine = mine.filter(|mine| mine.is_noted());
+            let name = PartName::of(held.at).0;
+            let by = |handle: &mut _| unsafe {
+                // SAFETY: the handles below are of the place's part, and the caller says it of the place.
+                self.give_back_by(handle, mine, held)
+            };
+            match mine.and_then(Mine::way) {
+                Some(mut way) => by(way.handle(name, &self.part(name).library)),
+                None => by(&mut OwnHandle::empty()),
+            }
+        });
+    }
+
+    /// Returns a place by this handle, and counts it for the thread.
+    ///
+    /// # Safety
+    ///
+    /// The place is of this pool, and the handle of its part.
+    #[inline(always)]
+    unsafe fn give_back_by(&self, handle: &mut OwnHandle, mine: Option<Mine<'_>>, held: Held) {
+        self.count(mine, -1);
+        let (name, place) = PartName::of(held.at);
+        let count_change = || _ = self.news.0.changes.fetch_add(1, SeqCst);
+        // SAFETY: `held` was the right to this place.
+        let place = unsafe { Place::held(place) };
+        // SAFETY: the caller says that the handle and the place are of this part.
+        unsafe {
+            self.part(name)
+                .library
+                .give_back(handle, place, count_change)
+        };
+    }
+
+    /// Notes that a thread keeps places, which it returns at its end. `None` if memory is refused.
+    fn note(self: &Arc<Self>, mine: Mine<'_>) -> Option<()> {
+        threads::note(Arc::downgrade(self))?;
+        mine.begin();
+        Some(())
+    }
+
+    #[inline(never)]
+    fn return_all(self: &Arc<Self>, mine: Mine<'_>) {
+        while let Some(held) = mine.take() {
+            // SAFETY: it was returned to this pool.
+            unsafe { self.give_back_near(Some(mine), held) };
+        }
+    }
+
+    /// Returns what a thread keeps, at its end.
+    pub(crate) fn return_kept(self: &Arc<Self>, number: &Number) {
+        if let Some(ended) = self.mine(number) {
+            self.return_all(ended);
+            ended.end();
+        }
+    }
+
+    /// Makes a part of so many places, if it isn't there. `None` if memory is refused.
+    pub(crate) fn make(&self, name: PartName, places: usize) -> Option<()> {
+        self.parts.make(name, || Part::new(places))
+    }
+
+    /// Returns a thread's slot, if it was made.
+    #[inline(always)]
+    fn mine<'s>(&'s self, number: &'s Number) -> Option<Mine<'s>> {
+        Some(self.thread_slots.get(number)?.0.mine(number))
+    }
+
+    /// Returns a thread's slot, which is made if it isn't there. `None` if memory is refused.
+    fn mine_or_new<'s>(&'s self, number: &'s Number) -> Option<Mine<'s>> {
+        let new = || OwnLines(ThreadSlot::new(number));
+        let made = || Some(self.thread_slots.make(number, new())?.0.mine(number));
+        self.mine(number).or_else(made)
+    }
+
+    /// Returns a part that has places.
+    #[inline(always)]
+    fn part(&self, name: PartName) -> &Part {
+        self.parts.get(name).unwrap_or_else(|| refuse())
+    }
+}

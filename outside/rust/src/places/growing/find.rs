@@ -1,0 +1,151 @@
+//! How a pull finds a place that its thread doesn't keep, and where none is found, one without an
+//! item.
+use super::part::Part;
+use super::thread_slot::{Mine, Way};
+use super::{Growing, News, PartName, Pulled};
+use crate::atomics::{Ordering::Relaxed, Ordering::SeqCst};
+use crate::library::calls::PAGE;
+use std::sync::PoisonError;
+
+/// How often all parts are looked at before a fresh place is given, if others return places.
+const ROUNDS: usize = 32;
+
+/// What a look at a part or at all parts found.
+enum Look {
+    Found(Pulled),
+    /// Some part said that a place was returned, but others had pulled it.
+    Refused,
+    Empty,
+}
+
+impl Growing {
+    /// Finds a place that was returned, or gives one without an item.
+    ///
+    /// # Errors
+    ///
+    /// As `pull_far`.
+    pub(super) fn find_or_unmade(
+        &self,
+        way: &mut Way,
+        mine: Option<Mine<'_>>,
+    ) -> Result<Pulled, Option<PartName>> {
+        let found = self.find(way);
+        mine.filter(|_| found.is_some())
+            .into_iter()
+            .for_each(Mine::count_pull);
+        found.map_or_else(|| self.unmade(way), Ok)
+    }
+
+    /// Gives a place without an item, if no place was returned since the thread's last look, and the
+    /// thread's part has such a place.
+    #[inline(always)]
+    pub(super) fn unmade_near(&self, mine: Mine<'_>) -> Option<Pulled> {
+        let way = &mut *mine.way()?;
+        let is_none_returned = self.changes_since_none(way).is_none();
+        let pulled = is_none_returned.then(|| self.unmade(way).ok()).flatten()?;
+        self.count(Some(mine), 1);
+        Some(pulled)
+    }
+
+    /// Finds a place that was returned. A place that others return and pull may pass by a look at all
+    /// parts, so there are more of them while some part says that one may be found.
+    fn find(&self, way: &mut Way) -> Option<Pulled> {
+        for _ in 0..ROUNDS {
+            let changes = self.changes_since_none(way)?;
+            match self.look(way) {
+                Look::Found(pulled) => return Some(pulled),
+                Look::Refused => {}
+                Look::Empty => way.changes_at_none = Some(changes),
+            }
+        }
+        None
+    }
+
+    /// Returns how many changes there were. `None` if there was none since a look of the thread that
+    /// found no place.
+    #[inline(always)]
+    fn changes_since_none(&self, way: &Way) -> Option<usize> {
+        let changes = self.news.0.changes.load(SeqCst);
+        (way.changes_at_none != Some(changes)).then_some(changes)
+    }
+
+    /// Gives a place without an item: one whose `init` panicked, or one that nobody had, of the last
+    /// part of this shard.
+    ///
+    /// # Errors
+    ///
+    /// As `pull_far`.
+    #[inline(always)]
+    fn unmade(&self, way: &mut Way) -> Result<Pulled, Option<PartName>> {
+        if let Some(at) = self.take_bare() {
+            return Ok(Pulled::unmade(at));
+        }
+        while let Some(part) = self.parts.get(way.last) {
+            if let Some(place) = part.fresh() {
+                return Ok(Pulled::unmade(way.last.at(place)));
+            }
+            way.last = way.last.next().ok_or(None)?;
+        }
+        Err(Some(way.last))
+    }
+
+    /// Looks at each part.
+    fn look(&self, way: &mut Way) -> Look {
+        let mut look = Look::Empty;
+        let home = way.last.shard();
+        for (name, part) in self.parts.all(home) {
+            match self.pull_at(name, part, way) {
+                Ok(pulled) => return Look::Found(pulled),
+                Err(Look::Empty) => {}
+                Err(refused) => look = refused,
+            }
+        }
+        look
+    }
+
+    /// Pulls a place of a part, if it says that one was returned.
+    fn pull_at(&self, name: PartName, part: &Part, way: &mut Way) -> Result<Pulled, Look> {
+        if !part.library.may_have_some() {
+            return Err(Look::Empty);
+        }
+        let page = way.page;
+        let place = part.library.pull(way.handle(name, &part.library), page);
+        let place = place.ok_or(Look::Refused)?;
+        way.part = Some(name);
+        way.go_on(place.number() / PAGE, part.pages());
+        Ok(Pulled::made(name, place))
+    }
+
+    /// Leaves a place without an item to a later pull that makes one. If that is refused memory, the
+    /// place isn't used any more.
+    ///
+    /// # Safety
+    ///
+    /// The place is of this pool.
+    #[cold]
+    pub(crate) unsafe fn leave_bare(&self, place: Pulled) {
+        self.news.0.pulled.add(-1);
+        self.with_bare(|bare| {
+            if bare.try_reserve(1).is_ok() {
+                bare.push(place.at);
+            }
+        });
+    }
+
+    /// Makes this call with the places that have no items, and counts them.
+    fn with_bare<A>(&self, call: impl FnOnce(&mut Vec<usize>) -> A) -> A {
+        let News {
+            bare, bare_count, ..
+        } = &self.news.0;
+        let mut bare = bare.lock().unwrap_or_else(PoisonError::into_inner);
+        let answer = call(&mut bare);
+        bare_count.store(bare.len(), Relaxed);
+        answer
+    }
+
+    /// Takes a place that has no item, if one was left.
+    fn take_bare(&self) -> Option<usize> {
+        let is_left = self.news.0.bare_count.load(Relaxed) > 0;
+        is_left.then(|| self.with_bare(Vec::pop)).flatten()
+    }
+}

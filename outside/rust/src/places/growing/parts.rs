@@ -1,0 +1,117 @@
+//! The parts of a pool that grows, and their names.
+use crate::once::OnceBox;
+
+/// How many shards a pool has. So many threads pull and return without meeting.
+pub(super) const SHARDS: usize = 8;
+/// How many parts a shard may have, and how many of them lie in one table.
+const PARTS: usize = 128;
+const TABLE: usize = 32;
+/// How many parts have twice as many places each as the one before. From then on four parts have as
+/// many each: so a new one has room for a quarter of all before, and what it costs to hold all its
+/// places at first is shared by their items.
+const DOUBLING: usize = 6;
+
+/// A part of a pool, by a number of which each value names one.
+#[derive(Clone, Copy, PartialEq, Eq)]
+pub(crate) struct PartName(u16);
+
+impl PartName {
+    const ALL: usize = 1_024;
+
+    /// Names a part of a shard. `None` if there are too many.
+    pub(super) fn new(shard: usize, part: usize) -> Option<PartName> {
+        (part < PARTS).then_some(PartName((part * SHARDS + shard) as u16))
+    }
+
+    pub(super) fn first(shard: usize) -> PartName {
+        PartName((shard % SHARDS) as u16)
+    }
+
+    /// Names the part of a place, and the place in it.
+    #[inline(always)]
+    pub(crate) fn of(at: usize) -> (PartName, usize) {
+        (PartName((at % Self::ALL) as u16), at / Self::ALL)
+    }
+
+    #[inline(always)]
+    pub(super) fn shard(self) -> usize {
+        self.number() % SHARDS
+    }
+
+    /// Returns which of its shard's parts it is.
+    #[inline(always)]
+    fn part(self) -> usize {
+        self.number() / SHARDS
+    }
+
+    /// Returns how often the places of its shard's first part are doubled here.
+    pub(crate) fn doublings(self) -> usize {
+        self.part().min((self.part() + 3 * DOUBLING) / 4)
+    }
+
+    #[inline(always)]
+    pub(super) fn number(self) -> usize {
+        usize::from(self.0)
+    }
+
+    /// Names the next part of the shard. `None` if there are too many.
+    pub(super) fn next(self) -> Option<PartName> {
+        PartName::new(self.shard(), self.part() + 1)
+    }
+
+    /// Returns what stands for this place in a part of this name.
+    #[inline(always)]
+    pub(super) fn at(self, place: usize) -> usize {
+        place * Self::ALL + self.number()
+    }
+}
+
+const _: () = assert!(SHARDS * PARTS == PartName::ALL);
+
+/// Some parts of a shard.
+type Table<P> = OnceBox<[OnceBox<P>; TABLE]>;
+
+/// What each part has, in the tables of shards. The parts of a shard are made in their order.
+pub(crate) struct Parts<P>([[Table<P>; PARTS / TABLE]; SHARDS]);
+
+impl<P> Parts<P> {
+    pub(crate) const fn new() -> Parts<P> {
+        Parts([const { [const { OnceBox::new() }; PARTS / TABLE] }; SHARDS])
+    }
+
+    /// Returns a part, if it was made.
+    #[inline(always)]
+    pub(crate) fn get(&self, name: PartName) -> Option<&P> {
+        self.table(name).get()?[name.part() % TABLE].get()
+    }
+
+    #[inline(always)]
+    fn table(&self, name: PartName) -> &Table<P> {
+        &self.0[name.shard()][name.part() / TABLE % (PARTS / TABLE)]
+    }
+
+    /// Makes a part, if it isn't there. `None` if memory is refused.
+    pub(crate) fn make(&self, name: PartName, part: impl FnOnce() -> Option<P>) -> Option<()> {
+        let table = self.table(name);
+        let table = match table.get() {
+            Some(table) => table,
+            None => table.set([const { OnceBox::new() }; TABLE])?,
+        };
+        let made = &table[name.part() % TABLE];
+        if made.get().is_none() {
+            made.set(part()?)?;
+        }
+        Some(())
+    }
+
+    /// Returns all parts, those of this shard first.
+    pub(super) fn all(&self, home: usize) -> impl Iterator<Item = (PartName, &P)> {
+        (0..SHARDS).flat_map(move |step| self.shard((home + step) % SHARDS))
+    }
+
+    fn shard(&self, shard: usize) -> impl Iterator<Item = (PartName, &P)> {
+        let tables = self.0[shard].iter().map_while(OnceBox::get);
+        let parts = tables.flatten().map_while(OnceBox::get).enumerate();
+        parts.filter_map(move |(part, made)| Some((PartName::new(shard, part)?, made)))
+    }
+}

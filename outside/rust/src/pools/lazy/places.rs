@@ -1,0 +1,193 @@
+//! The places of a lazy pool: those that are empty, those with an item, and who waits for one.
+use super::empties::Empties;
+use super::queue::{Queue, Wake};
+use super::signs::{Order, Seen, Signs};
+use super::waiters::{Limit, Waiters};
+use crate::library::Place;
+use crate::places::fixed::Fixed;
+use crate::pools::pool::NewError;
+use std::iter;
+
+#[derive(Debug, PartialEq)]
+pub(super) struct Closed;
+
+/// A place, if one is free, or that the pool is closed.
+pub(super) type Any = Option<Result<Place, Closed>>;
+
+/// The empty places and those with an item are two pools over the same numbers. Each place is held
+/// in at least one of them, and who pulled it from either has it alone.
+pub(super) struct Places {
+    empty: Fixed,
+    made: Fixed,
+    /// How many are empty and free. One is counted off before it is pulled.
+    empties: Empties,
+    order: Order,
+    /// The threads that wait, where any may come first.
+    waiters: Waiters,
+    pub(super) queue: Queue,
+}
+
+impl Places {
+    /// Creates so many empty places.
+    ///
+    /// # Errors
+    ///
+    /// `NoItems` if there are none, or `Memory`, also if they are more than can be counted.
+    pub(super) fn new(places: usize, order: Order) -> Result<Places, NewError> {
+        let [empty, made] = [Fixed::new(places)?, Fixed::new(places)?];
+        while made.pull().is_some() {} // no item is made yet
+        Ok(Places {
+            empty,
+            made,
+            empties: Empties::new(places).ok_or(NewError::Memory)?,
+            order,
+            waiters: Waiters::default(),
+            queue: Queue::default(),
+        })
+    }
+
+    pub(super) fn count(&self) -> usize {
+        self.made.places()
+    }
+
+    /// Returns how many have an item, or are to have one.
+    pub(super) fn made(&self) -> usize {
+        self.count() - self.empties.load().count()
+    }
+
+    /// Returns how many are in use: pulled of one kind, and not returned as either.
+    pub(super) fn in_use(&self) -> usize {
+        let pulled = self.made.pulled().wrapping_add(self.empty.pulled());
+        pulled.wrapping_sub(self.count())
+    }
+
+    pub(super) fn close(&self) {
+        self.waiters.close();
+        self.queue.wake_all();
+    }
+
+    pub(super) fn signs(&self) -> &Signs {
+        &self.waiters.signs
+    }
+
+    /// Pulls a place with an item. `None` if there was none at one moment.
+    pub(super) fn pull_made(&self) -> Option<Place> {
+        self.made.pull()
+    }
+
+    /// Pulls an empty place. `None` if there was none at one moment.
+    pub(super) fn pull_empty(&self) -> Option<Place> {
+        // One is free if it was counted. A look that misses it is made again.
+        let looks = || iter::repeat_with(|| self.empty.pull());
+        self.empties
+            .take()
+            .then(|| looks().flatten().next())
+            .flatten()
+    }
+
+    /// Pulls a place with an item, if the pool has nothing else to mind.
+    #[inline(always)]
+    pub(super) fn pull_plain(&self) -> Option<Place> {
+        let stops = self.signs().load().stops_pull(self.order);
+        (!stops).then(|| self.made.pull()).flatten()
+    }
+
+    /// Pulls a place, one with an item if it can. `None` if all were in use at one moment, or if
+    /// others come first.
+    pub(super) fn any(&self) -> Any {
+        let may_pull = self.signs().load().only_minds(self.order);
+        if let Some(place) = may_pull.then(|| self.pull_made()).flatten() {
+            return Some(Ok(place));
+        }
+        if self.others_come_first() {
+            return None;
+        }
+        self.any_later()
+    }
+
+    /// Returns whether a pull that doesn't wait is refused, since others do.
+    pub(super) fn others_come_first(&self) -> bool {
+        let signs = self.signs().load();
+        self.is_fair() && signs.waiting() > 0 && !signs.is_closed()
+    }
+
+    pub(super) fn is_fair(&self) -> bool {
+        self.order == Order::FAIR
+    }
+
+    /// Pulls a place, one with an item if it can. It is refused if no place with an item was free,
+    /// at a moment at which no empty one was: there was none before and after it, and none came
+    /// between.
+    #[cold]
+    fn any_later(&self) -> Any {
+        loop {
+            let (signs, empties) = (self.signs().load_before(), self.empties.load());
+            if signs.is_closed() {
+                return Some(Err(Closed));
+            }
+            let is_none_made = signs.says_none_made() && !empties.is_none();
+            if let Some(place) = (!is_none_made).then(|| self.pull_made()).flatten() {
+                return Some(Ok(place));
+            }
+            if let Some(place) = self.pull_empty() {
+                self.signs().none_found(signs);
+                return Some(Ok(place));
+            }
+            if empties.is_none() && empties == self.empties.load() {
+                return None;
+            }
+        }
+    }
+
+    /// Waits for a place until the limit, with other threads of which any may come first. `None` if
+    /// a last try after the limit found none.
+    pub(super) fn wait(&self, limit: Limit) -> Any {
+        self.waiters.wait(limit, || self.any())
+    }
+
+    /// Comes last in the queue, and returns the ticket. `None` if memory is refused.
+    pub(super) fn enter_queue(&self, wake: Wake) -> Option<u64> {
+        let ticket = self.queue.enter(self.signs(), wake)?;
+        self.serve();
+        Some(ticket)
+    }
+
+    /// Hands the places that are free to those that are first in the queue.
+    fn serve(&self) {
+        while self.queue.hand(self.signs(), || self.any_later()) {}
+    }
+
+    /// Returns a place, to which nobody comes from now on, and tells those that wait. Returns
+    /// whether the pool is closed.
+    ///
+    /// # Safety
+    ///
+    /// It is of this pool. It has an item, or has none, as this says.
+    #[inline(always)]
+    pub(super) unsafe fn give_back(&self, place: Place, is_made: bool) -> bool {
+        if is_made {
+            // SAFETY: who pulled a place, as empty or as made, holds it as a made one.
+            unsafe { self.made.give_back(place) };
+        } else {
+            // SAFETY: who pulled a place, as empty or as made, holds it as an empty one.
+            unsafe { self.empty.give_back(place) };
+            self.empties.put();
+        }
+        let signs = self.signs().load_after();
+        !signs.is_clear() && self.tell(signs, is_made)
+    }
+
+    #[cold]
+    fn tell(&self, signs: Seen, is_made: bool) -> bool {
+        if is_made {
+            self.signs().made_came();
+        }
+        if self.queue.is_awaited() {
+            self.serve();
+        }
+        if signs.waiting() > 0 && !self.is_fair() {
+            self.waiters.wake();
+        }
+        signs.is_closed()
+    }
+}

@@ -1,0 +1,173 @@
+//! Who waits for a place of a lazy pool in turn: tasks, and in a fair pool threads too.
+//!
+//! Who comes gets a ticket. A place that is free is handed to the first one without a place, under
+//! the lock, and is in use from then on. Wakers are called after the lock.
+use super::places::{Any, Closed};
+use super::signs::Signs;
+use crate::library::Place;
+use std::collections::VecDeque;
+use std::sync::atomic::{AtomicU64, AtomicUsize, Ordering::SeqCst};
+use std::sync::{Mutex, MutexGuard, PoisonError};
+use std::task::Waker;
+use std::thread::Thread;
+
+/// How one that waits is woken.
+pub(super) enum Wake {
+    Thread(Thread),
+    Task(Waker),
+}
+
+impl Wake {
+    fn wake(self) {
+        match self {
+            Wake::Thread(thread) => thread.unpark(),
+            Wake::Task(waker) => waker.wake(),
+        }
+    }
+}
+
+#[derive(Default)]
+pub(super) struct Queue {
+    /// How many wait, and were handed no place.
+    waiting: AtomicUsize,
+    /// The last ticket to which a place was handed.
+    served: AtomicU64,
+    line: Mutex<Line>,
+}
+
+/// All who wait, by their tickets. Those that were handed a place come first.
+#[derive(Default)]
+struct Line {
+    all: VecDeque<Waiter>,
+    served: usize,
+    last: u64,
+}
+
+struct Waiter {
+    ticket: u64,
+    place: Option<Place>,
+    wake: Option<Wake>,
+}
+
+impl Line {
+    /// Removes who has this ticket, and returns it.
+    fn remove(&mut self, ticket: u64) -> Option<Waiter> {
+        let index = self
+            .all
+            .binary_search_by_key(&ticket, |waiter| waiter.ticket);
+        let waiter = self.all.remove(index.ok()?)?;
+        self.served -= usize::from(waiter.place.is_some());
+        Some(waiter)
+    }
+}
+
+impl Queue {
+    fn lock(&self) -> MutexGuard<'_, Line> {
+        self.line.lock().unwrap_or_else(PoisonError::into_inner)
+    }
+
+    pub(super) fn is_awaited(&self) -> bool {
+        self.waiting.load(SeqCst) != 0
+    }
+
+    /// Comes last, and returns the ticket. `None` if memory is refused.
+    pub(super) fn enter(&self, signs: &Signs, wake: Wake) -> Option<u64> {
+        let mut line = self.lock();
+        line.all.try_reserve(1).ok()?;
+        line.last += 1;
+        let (ticket, place, wake) = (line.last, None, Some(wake));
+        line.all.push_back(Waiter {
+            ticket,
+            place,
+            wake,
+        });
+        self.waiting.fetch_add(1, SeqCst);
+        signs.enter();
+        Some(ticket)
+    }
+
+    /// Hands a place to the first one that has none, and wakes it. Returns `false` if nobody waits,
+    /// or this finds no place.
+    pub(super) fn hand(&self, signs: &Signs, place: impl FnOnce() -> Any) -> bool {
+        let mut line = self.lock();
+        let served = line.served;
+        let Some(first) = line.all.get_mut(served) else {
+            return false;
+        };
+        let Some(Ok(place)) = place() else {
+            return false;
+        };
+        let wake = first.wake.take();
+        first.place = Some(place);
+        self.count_off(signs);
+        self.served.store(first.ticket, SeqCst);
+        line.served += 1;
+        drop(line);
+        wake.into_iter().for_each(Wake::wake);
+        true
+    }
+
+    fn count_off(&self, signs: &Signs) {
+        self.waiting.fetch_sub(1, SeqCst);
+        signs.leave();
+    }
+
+    /// Returns whether who has this ticket was handed a place, if it didn't leave.
+    pub(super) fn is_served(&self, ticket: u64) -> bool {
+        self.served.load(SeqCst) >= ticket
+    }
+
+    /// Takes the place that was handed to this ticket, or leaves a closed pool. Else it is woken so
+    /// from now on.
+    pub(super) fn take(&self, signs: &Signs, ticket: u64, wake: Option<Wake>) -> Any {
+        let mut line = self.lock();
+        if self.is_served(ticket) {
+            return line.remove(ticket)?.place.map(Ok);
+        }
+        if signs.load().is_closed() {
+            let waiter = line.remove(ticket);
+            self.count_off(signs);
+            drop(line);
+            drop(waiter);
+            return Some(Err(Closed));
+        }
+        let index = line
+            .all
+            .binary_search_by_key(&ticket, |waiter| waiter.ticket);
+        let mut before = wake;
+        if let (Ok(index), true) = (index, before.is_some()) {
+            std::mem::swap(&mut line.all[index].wake, &mut before);
+        }
+        drop(line); // what woke it before is dropped after that
+        None
+    }
+
+    /// Leaves the queue. Returns the place that was handed to this ticket.
+    pub(super) fn leave(&self, signs: &Signs, ticket: u64) -> Option<Place> {
+        let waiter = {
+            let mut line = self.lock();
+            let waiter = line.remove(ticket)?;
+            if waiter.place.is_none() {
+                self.count_off(signs);
+            }
+            waiter
+        };
+        waiter.place
+    }
+
+    /// Wakes all, after the pool was closed.
+    pub(super) fn wake_all(&self) {
+        let mut after = 0;
+        loop {
+            let mut line = self.lock();
+            let index = line.all.partition_point(|waiter| waiter.ticket <= after);
+            let Some(waiter) = line.all.get_mut(index) else {
+                return;
+            };
+            let wake = waiter.wake.take();
+            after = waiter.ticket;
+            drop(line);
+            wake.into_iter().for_each(Wake::wake);
+        }
+    }
+}

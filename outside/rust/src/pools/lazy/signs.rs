@@ -1,0 +1,141 @@
+//! The word of a lazy pool that each pull and each return reads: how many wait, whether the pool is
+//! closed, whether it minds more than a reset, and whether it is known that no item is made and free.
+//!
+//! A pull that found no such item, and is about to make one, sets `WATCHED`. A return of an item
+//! clears it, and counts one more in the upper half of the word. A look for such an item that began
+//! while `WATCHED` was set, and found none, sets `NONE_MADE`, if no return was counted since. So
+//! while `NONE_MADE` is set, each item whose return is over was pulled again.
+use std::sync::atomic::{fence, AtomicU64, Ordering::SeqCst};
+
+const CLOSED: u64 = 1 << 31;
+const WATCHED: u64 = 1 << 30;
+const NONE_MADE: u64 = 1 << 29;
+/// The pool has a check, or times, or tells events.
+const MINDS: u64 = 1 << 28;
+/// How many wait.
+const WAITING: u64 = MINDS - 1;
+/// One that is counted in the upper half, and all of these.
+const CAME: u64 = 1 << 32;
+const ALL_CAME: u64 = !(CAME - 1);
+
+#[derive(Default)]
+pub(super) struct Signs(AtomicU64);
+
+/// What the word was at a moment.
+#[derive(Clone, Copy)]
+pub(super) struct Seen(u64);
+
+/// The order in which those that wait get places, by what stops a pull.
+#[derive(Clone, Copy, PartialEq)]
+pub(super) struct Order(u64);
+
+impl Order {
+    /// Whoever comes first to a place that is free.
+    pub(super) const ANY: Order = Order(CLOSED | WATCHED | NONE_MADE | MINDS);
+    /// First come, first served: so a pull minds also who waits.
+    pub(super) const FAIR: Order = Order(CLOSED | WATCHED | NONE_MADE | MINDS | WAITING);
+}
+
+impl Signs {
+    /// Reads the word, for a pull. What it reads then is no older.
+    #[inline(always)]
+    pub(super) fn load(&self) -> Seen {
+        Seen(self.0.load(SeqCst))
+    }
+
+    /// Reads the word, after a place was returned.
+    #[inline(always)]
+    pub(super) fn load_after(&self) -> Seen {
+        fence(SeqCst);
+        self.load()
+    }
+
+    /// Reads the word, before a place is looked for.
+    pub(super) fn load_before(&self) -> Seen {
+        let seen = self.load();
+        fence(SeqCst);
+        seen
+    }
+
+    pub(super) fn enter(&self) {
+        self.0.fetch_add(1, SeqCst);
+        fence(SeqCst);
+    }
+
+    pub(super) fn leave(&self) {
+        self.0.fetch_sub(1, SeqCst);
+    }
+
+    pub(super) fn close(&self) {
+        self.0.fetch_or(CLOSED, SeqCst);
+        fence(SeqCst);
+    }
+
+    /// Says that the pool minds more than a reset.
+    pub(super) fn mind(&self) {
+        self.0.fetch_or(MINDS, SeqCst);
+    }
+
+    /// Notes that a look for a made item, which began after this was seen, found none.
+    pub(super) fn none_found(&self, seen: Seen) {
+        let sign = if seen.0 & WATCHED == 0 {
+            WATCHED
+        } else {
+            NONE_MADE
+        };
+        self.change(|now| ((now ^ seen.0) & (ALL_CAME | WATCHED) == 0).then_some(now | sign));
+    }
+
+    /// Notes that an item was returned.
+    pub(super) fn made_came(&self) {
+        let cleared = |now: u64| (now & !(WATCHED | NONE_MADE)).wrapping_add(CAME);
+        self.change(|now| (now & WATCHED != 0).then(|| cleared(now)));
+    }
+
+    fn change(&self, change: impl Fn(u64) -> Option<u64>) {
+        let _ = self.0.fetch_update(SeqCst, SeqCst, change);
+    }
+}
+
+impl Seen {
+    /// Returns whether a return has nobody to tell.
+    #[inline(always)]
+    pub(super) fn is_clear(self) -> bool {
+        self.0 & (CLOSED | WATCHED | NONE_MADE | WAITING) == 0
+    }
+
+    /// Returns whether a return does no more than to reset its item.
+    #[inline(always)]
+    pub(super) fn is_plain(self) -> bool {
+        self.0 & (CLOSED | MINDS) == 0
+    }
+
+    /// Returns whether a pull that isn't plain may pull an item at once.
+    pub(super) fn only_minds(self, order: Order) -> bool {
+        self.0 & order.0 == MINDS
+    }
+
+    /// Returns whether a pull does more than to pull an item that is made.
+    #[inline(always)]
+    pub(super) fn stops_pull(self, order: Order) -> bool {
+        self.0 & order.0 != 0
+    }
+
+    #[inline(always)]
+    pub(super) fn is_closed(self) -> bool {
+        self.0 & CLOSED != 0
+    }
+
+    pub(super) fn waiting(self) -> usize {
+        (self.0 & WAITING) as usize
+    }
+
+    /// Returns whether it is known that no item is made and free.
+    pub(super) fn says_none_made(self) -> bool {
+        self.0 & NONE_MADE != 0
+    }
+}
+
+#[cfg(test)]
+#[path = "../../../unit_tests/signs.rs"]
+mod tests;

@@ -1,0 +1,100 @@
+//! A pull that waits in the queue of a lazy pool.
+use super::held::{Got, Held};
+use super::queue::Wake;
+use super::waiters::{left, Limit};
+use super::{Event, LazyPool, PullError};
+use std::future::Future;
+use std::hint::spin_loop;
+use std::pin::Pin;
+use std::task::{Context, Poll};
+use std::thread;
+
+/// How often a thread looks whether a place was handed to it before it sleeps.
+const LOOKS: usize = 100;
+
+/// A pull that waits for its turn. At its end it leaves the queue, and a place that was handed to
+/// it goes on to the next.
+pub(super) struct Turn<'p, T, E> {
+    pool: &'p LazyPool<T, E>,
+    ticket: Option<u64>,
+}
+
+impl<'p, T, E> Turn<'p, T, E> {
+    /// Creates a pull that hasn't looked for a place yet.
+    pub(super) fn new(pool: &'p LazyPool<T, E>) -> Self {
+        let ticket = None;
+        Turn { pool, ticket }
+    }
+
+    /// Comes last in the queue, if it isn't there. `None` if memory is refused.
+    fn enter(&mut self, wake: impl FnOnce() -> Wake) -> Option<u64> {
+        if self.ticket.is_none() {
+            self.ticket = self.pool.places.enter_queue(wake());
+        }
+        self.ticket
+    }
+
+    /// Returns the place that was handed to it, if one was. Else it is woken so from now on.
+    fn take(&mut self, wake: Option<Wake>) -> Got<'p, T, E> {
+        let places = &self.pool.places;
+        let any = places.queue.take(places.signs(), self.ticket?, wake)?;
+        self.ticket = None;
+        Held::of(self.pool, Some(any))
+    }
+
+    /// Waits for a place until the limit. `None` if there was none then.
+    #[cold]
+    pub(super) fn wait(mut self, limit: Limit) -> Got<'p, T, E> {
+        loop {
+            let is_last = left(limit).is_zero();
+            match self.enter(|| Wake::Thread(thread::current())) {
+                Some(ticket) if self.is_due_soon(ticket) || is_last => {
+                    let got = self.take(None);
+                    if got.is_some() || is_last {
+                        return got;
+                    }
+                }
+                Some(_) => thread::park_timeout(left(limit)),
+                None if is_last => return None,
+                None => thread::yield_now(), // there may be memory later
+            }
+        }
+    }
+
+    /// Looks for some time whether a place was handed to it.
+    fn is_due_soon(&self, ticket: u64) -> bool {
+        (0..LOOKS).any(|_| {
+            spin_loop();
+            self.pool.places.queue.is_served(ticket) || self.pool.is_closed()
+        })
+    }
+}
+
+impl<'p, T, E> Future for Turn<'p, T, E> {
+    type Output = Result<Held<'p, T, E>, PullError<E>>;
+
+    fn poll(mut self: Pin<&mut Self>, context: &mut Context<'_>) -> Poll<Self::Output> {
+        let wake = || Wake::Task(context.waker().clone());
+        if self.ticket.is_none() {
+            if let Some(got) = Held::any(self.pool) {
+                return Poll::Ready(got);
+            }
+            self.pool.emit(Event::Waits);
+            if self.enter(wake).is_none() {
+                context.waker().wake_by_ref(); // there may be memory later
+                return Poll::Pending;
+            }
+        }
+        let wake = Some(wake());
+        self.take(wake).map_or(Poll::Pending, Poll::Ready)
+    }
+}
+
+impl<T, E> Drop for Turn<'_, T, E> {
+    fn drop(&mut self) {
+        let places = &self.pool.places;
+        let leave = |ticket| places.queue.leave(places.signs(), ticket);
+        let handed = self.ticket.and_then(leave);
+        drop(Held::of(self.pool, handed.map(Ok)));
+    }
+}
