@@ -8,6 +8,7 @@ sys.dont_write_bytecode = True
 
 import kept  # noqa: E402
 import library  # noqa: E402
+import noted  # noqa: E402
 import orders  # noqa: E402
 import waiting  # noqa: E402
 from machine import Unknown  # noqa: E402
@@ -27,7 +28,7 @@ def main() -> None:
     folder, names = Path(sys.argv[1]), sys.argv[2:]
     proved = texts(ASSEMBLY, {"x86_64": "x86_64.s", "aarch64": "aarch64.s"})
     crate = texts(folder, {name: file for name, file in CRATE.items() if (folder / file).exists()})
-    todo = [(test, form) for form in proved for test in library.TESTS] + [(test, form) for form in crate for test in [*kept.TESTS, *waiting.TESTS]]
+    todo = [(test, form) for form in proved for test in library.TESTS] + [(test, form) for form in crate for test in [*kept.TESTS, *noted.TESTS, *waiting.TESTS]]
     passed = failed = 0
     with ThreadPoolExecutor(JOBS) as pool:
         asked = [one for test, form in todo if not names or test.name in names for one in asked_of(test, form)]

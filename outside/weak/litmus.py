@@ -10,8 +10,8 @@ from pathlib import Path
 
 from machine import Step, Unknown
 
-# How long herd7 may take for one test.
-SECONDS = 300
+# How long herd7 may take for one test, also where much else runs.
+SECONDS = 1800
 
 Threads = list[list[Step]]
 

@@ -65,16 +65,16 @@ class Program:
     def text(self) -> str:
         rows = []
         for at, (places, steps) in enumerate(self.threads):
-            kinds = ", ".join(f"{'int' if place in ('v', 'e') else 'atomic_int'}* {place}" for place in places.split())
+            kinds = ", ".join(f"{'int' if place in ('v', 'e', 'f') else 'atomic_int'}* {place}" for place in places.split())
             rows.append(f"P{at}({kinds}) {{ {steps} }}")
         return f"C {self.name}\n{{ {self.begin} }}\n" + "\n".join(rows) + f"\nexists ({self.fault})\n"
 
 
 def programs(source: Source) -> Iterator[Program]:
     """The programs, by the orders that the sources name. `s` is a slot, 1 if a place is kept there; `w` is a word of the library."""
-    seen, kept = source.order("fixed.rs", "load", "load"), source.order("fixed.rs", "keep", "store")
-    swap, raid = source.order("fixed.rs", "take_own", "swap"), source.order("fixed.rs", "take", "compare_exchange")
-    fence = source.fence("fixed.rs", "look")
+    seen, kept = source.order("places/kept.rs", "load", "load"), source.order("places/kept.rs", "keep", "store")
+    swap, raid = source.order("places/kept.rs", "take_own", "swap"), source.order("places/kept.rs", "take", "compare_exchange")
+    fence = source.fence("places/fixed.rs", "look")
     take = f"int r1=atomic_exchange_explicit(s,2,{swap});"
     took = f"int r1=atomic_compare_exchange_strong_explicit(s,e,2,{raid},{seen});"
     look = f"{fence} int r0={load('s', seen)}; int r1={load('w', SC)}; int r2={load('s', seen)};"
@@ -97,6 +97,7 @@ def programs(source: Source) -> Iterator[Program]:
                   [("s q", f"{store('s', 1, kept)} {fence} int r0={load('q', seen)};"),
                    ("s q", f"{store('q', 1, kept)} {fence} int r0={load('s', seen)};")],
                   "0:r0=0 /\\ 1:r0=0", [(FENCE, "")])
+    yield from noted(source)
     yield from waiting(source, kept, seen)
     set_, got = source.order("once.rs", "set", "compare_exchange"), source.order("once.rs", "get", "load")
     yield Program("made", "a thread's slot, or a pool's part, is found before it is made", "[e]=0;",
@@ -105,9 +106,39 @@ def programs(source: Source) -> Iterator[Program]:
                   "1:r1=1 /\\ 1:r0=0", [(f"1,{set_}", "1,memory_order_relaxed"), (f"(s,{got})", "(s,memory_order_relaxed)")])
 
 
+def noted(source: Source) -> Iterator[Program]:
+    """Those of the word `returned`, which is `n`: 0 if no place can be found, 1 if one may be, 2 and
+    3 the marks of a look and of a return, 4 another mark."""
+    file = "library.rs"
+    mark, note = (source.order(file, "pull_again", call) for call in ("store", "compare_exchange"))
+    told, said = (source.order(file, "say_returned", call) for call in ("store", "compare_exchange"))
+    known, quick = source.order(file, "give_back", "load"), source.order(file, "may_have_some", "load")
+
+    def change(number: int, place: str, expected: str, to: int, order: str) -> str:
+        words = f"{place},{expected},{to},{order},{order}"
+        return f"int r{number}=atomic_compare_exchange_strong_explicit({words});"
+
+    look = f"{store('n', 2, mark)} int r0={load('w', SC)}; {change(1, 'n', 'e', 0, note)}"
+    give = f"int r0={add('w', SC)}; int r1={load('n', known)};"
+    say = f"{store('n', 3, told)} {change(2, 'n', 'f', 1, said)}"
+    weak_mark = (f"n,2,{mark}", f"n,2,{RELEASE}")
+    weak_load = (f"r1={load('n', known)}", f"r1={load('n', ACQUIRE)}")
+    yield Program("noted", "a pull is refused by a note although a place is free: its return saw no mark",
+                  "[n]=1; [e]=2;", [("w n e", look), ("w n", f"{give} int r2={load('n', quick)};")],
+                  "0:r0=0 /\\ 0:r1=1 /\\ 1:r1=1 /\\ 1:r2=0", [weak_mark, weak_load])
+    yield Program("noted_past_a_mark", "the same: it saw another mark, and a later look's replaced its own",
+                  "[n]=4; [e]=2; [f]=3;", [("w n e", look), ("w n f", f"{give} {say}")],
+                  "0:r0=0 /\\ 0:r1=1 /\\ 1:r1=4 /\\ 1:r2=0", [weak_mark])
+    one, other = (f"{store(here, 3, told)} {change(0, here, mine, 1, said)} int r1={load(there, quick)};"
+                  for here, there, mine in (("x", "y", "e"), ("y", "x", "f")))
+    yield Program("noted_both", "two pulls are refused by notes, each of a place that the other one returned",
+                  "[e]=3; [f]=3;", [("x y e", one), ("x y f", other)],
+                  "0:r0=1 /\\ 0:r1=0 /\\ 1:r0=1 /\\ 1:r1=0", [(load("x", quick), load("x", ACQUIRE))])
+
+
 def waiting(source: Source, kept: str, seen: str) -> Iterator[Program]:
     """Those of a lazy pool's waiters. `n` counts who waits, `t` what was told, `a` who sleeps."""
-    file, signs = "lazy_pool/waiters.rs", "lazy_pool/signs.rs"
+    file, signs = "pools/lazy/waiters.rs", "pools/lazy/signs.rs"
     wait, tell = source.fence(signs, "enter"), source.fence(signs, "load_after")
     counts, told = source.order(signs, "enter", "fetch_add"), source.order(file, "wake", "fetch_add")
     waits, again = source.order(signs, "load", "load"), source.order(file, "sleep", "load")

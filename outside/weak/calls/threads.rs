@@ -1,5 +1,5 @@
 
-/// As `fixed::weak`.
+/// As `places::fixed::weak`.
 pub mod weak {
     /// Returns what a thread knows in place of a number if all numbers are out.
     #[no_mangle]

@@ -10,7 +10,7 @@ pub mod weak {
 
     #[no_mangle]
     pub fn weak_fixed_pull(fixed: &Fixed) -> usize {
-        fixed.pull().unwrap_or(usize::MAX)
+        fixed.pull().map_or(usize::MAX, |place| place.number())
     }
 
     /// # Safety
@@ -18,6 +18,6 @@ pub mod weak {
     /// As `Fixed::give_back`.
     #[no_mangle]
     pub unsafe fn weak_fixed_give_back(fixed: &Fixed, place: usize) {
-        unsafe { fixed.give_back(place) }
+        unsafe { fixed.give_back(Place::held(place)) }
     }
 }

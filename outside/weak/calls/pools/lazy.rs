@@ -1,5 +1,5 @@
 
-/// As `fixed::weak`.
+/// As `places::fixed::weak`.
 pub mod weak {
     use super::*;
 
