@@ -16,7 +16,7 @@ DOCS = HERE.parent.parent / "docs"
 
 WIDTH, HEIGHT = 800, 400
 LEFT, RIGHT, TOP, BOTTOM = 58, 530, 64, 346
-COLOURS = ["#1b66c9", "#d9660a", "#2c8a3f"]
+COLOURS = ["#1b66c9", "#d9660a", "#2c8a3f", "#7b3fb5", "#b0256a"]
 GREY = "#8a8a8a"
 DASHES = ["", "6 4", "2 4", "8 3 2 3"]
 LINE_HEIGHT = 17
@@ -47,18 +47,18 @@ PICTURES = [
         "speed.svg",
         "Nanoseconds by items held",
         8,
-        2,
+        4,
         "Time of a pull and drop, in nanoseconds: lower is better",
-        "One thread, Intel Xeon of 2.5 GHz; the least of its runs",
+        "One thread, Intel Xeon of 2.5 GHz, 2026-11-30; the least of five runs",
         "items held meanwhile",
     ),
     Picture(
         "threads.svg",
         "Nanoseconds by threads",
         3,
-        3,
+        5,
         "Time of a pull and drop in each thread, in nanoseconds: lower is better",
-        "Nothing else held, Intel Xeon of 2.5 GHz; a point is the least of its runs, its bar ends at the middle one",
+        "Nothing else held, Intel Xeon of 2.5 GHz, 2026-11-30; a point is the least of five runs, its bar ends at the middle one",
         "threads at work",
     ),
     Picture(
