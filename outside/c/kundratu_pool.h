@@ -366,8 +366,8 @@ struct kdr_kept {
 #define KDR_IS_LIKELY(holds) (holds)
 #endif
 
-/* While a cache is changed, it is empty to a second thread, which is told KDR_NO_POOL. A compiler
-   would leave out what isn't volatile. */
+/* While a cache is changed, it is empty to a second thread, which mostly is told KDR_NO_POOL. A
+   compiler would leave out what isn't volatile. */
 #define KDR_CACHE_AT(cache) (*(void *volatile *)&(cache)->at)
 
 /* These move a place for a call of the lines below, and back. So a compiler may keep the caller's
