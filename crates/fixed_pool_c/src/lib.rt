@@ -1,8 +1,8 @@
 //! A fixed pool of places for C: a place is a number, and threads take and return places without a
 //! lock.
 //!
-//! The exported calls are in `exports`, `places` and `caches`, and `outside/c/kundratu_pool.h`
-//! declares them for C.
+//! The exported calls are in `exports`, `places` and `caches`. For C the header `kundratu_pool.h` in
+//! `outside/c/include` declares them.
 #![tactic(auto)]
 
 pub mod answer;

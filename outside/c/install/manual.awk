@@ -1,4 +1,4 @@
-# Writes the manual page of section 3 from the header's comments: awk -f manual.awk kundratu_pool.h
+# Writes the manual page of section 3 from the header's comments: awk -f install/manual.awk include/kundratu_pool.h
 
 function plain(text) {
     gsub(/\\/, "\\e", text)
