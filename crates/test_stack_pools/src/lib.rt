@@ -1,9 +1,11 @@
-//! Tests of the mutex pool and the spin lock pool, of their parts, and of the pool that keeps
-//! nothing.
+//! Tests of the mutex pool and the spin lock pool, of their parts, the lock with a history among
+//! them, and of the pool that keeps nothing.
 #![tactic(auto)]
 
 #[cfg(test)]
 mod callers;
+#[cfg(test)]
+mod lock_history;
 #[cfg(test)]
 mod no_memory;
 #[cfg(test)]

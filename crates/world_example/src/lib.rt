@@ -20,7 +20,7 @@ pub fn answers<T: Drop, R: Reset<T, AnyValue>>(
     reset: R,
     events: Vec<Event<T>>,
 ) -> Option<Vec<Seen>>
-    ensures one_pool { IfSome result (λ seen.
+    ensures pool_laws { IfSome result (λ seen.
         AnswersAsOnePool (R.leaves reset) (opening_world first None) events.items seen.items) }
 {
     let Ok(mut world) = World::new(alloc, first, reset) else {

@@ -1,6 +1,0 @@
-use Rattle.one_pool.proofs.Growth.{full-out}
-use Rattle.one_pool.proofs.laws.full_page.Goals as goal
-
-pub returns : goal.returns
-returns g c = λ name first steps page from to names full order pages below there was.
-    full-out name first full names steps order pages page below from to there was

@@ -1,5 +1,0 @@
-use Rattle.one_pool.proofs.Merging.{merge}
-use Rattle.one_pool.proofs.laws.merge.Goals as goal
-
-pub returns : goal.returns
-returns g c = λ name first steps names full order pages. merge name first full names steps order pages

@@ -1,8 +1,0 @@
-use Rattle.one_pool.proofs.Counterexamples.{zeros, too_early, both_zero, order-matters, in-order, names-matter}
-use Rattle.one_pool.proofs.laws.premises.Goals as goal
-
-pub returns : goal.returns
-returns g = record {
-  order = (zeros, too_early, order-matters);
-  names = (zeros, both_zero, in-order, names-matter);
-}

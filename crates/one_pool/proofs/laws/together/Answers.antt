@@ -1,5 +1,0 @@
-use Rattle.one_pool.proofs.Together.{all-together}
-use Rattle.one_pool.proofs.laws.together.Goals as goal
-
-pub returns : goal.returns
-returns g c = λ name values histories count names full legal. all-together name names values histories full legal count
