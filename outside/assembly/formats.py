@@ -1,10 +1,11 @@
-"""Says the text of the proved code for Linux with the directives of other systems. No instruction changes."""
+"""Says the text of the proved code for Linux with the directives of other systems. No instruction changes, but where macOS keeps x18."""
 
 import re
 from collections.abc import Callable
 from dataclasses import dataclass
 
 from object_file import Unknown
+from registers import spare
 
 NAME = r"\bkdr_\d+_\d+_\d+_\w+"
 
@@ -48,6 +49,11 @@ def macos(lines: list[str]) -> list[str]:
     return [named(line) for line in found]
 
 
+def macos_without_x18(lines: list[str]) -> list[str]:
+    """The text for AArch64 on macOS, which keeps register x18 for itself."""
+    return macos(spare(lines))
+
+
 def named(line: str) -> str:
     """A line with the names and labels of macOS."""
     if line.startswith(("# ", "// ")):
@@ -63,17 +69,16 @@ def named(line: str) -> str:
 
 @dataclass(frozen=True)
 class Other:
-    """A system other than Linux: the processor, clang's name of the target, how its text is made of Linux's, and its file, if it has one."""
+    """A system other than Linux: the processor, clang's name of the target, how its text is made of Linux's, and its file."""
 
     processor: str
     target: str
     made_by: Callable[[list[str]], list[str]]
-    file: str | None
+    file: str
 
 
-# On AArch64 the proved code uses register x18, which macOS keeps for itself. So its text is compared, and nothing uses it.
 OTHERS = [
     Other("x86_64", "x86_64-w64-windows-gnu", windows, "x86_64_windows.s"),
     Other("x86_64", "x86_64-apple-macosx11.0", macos, "x86_64_macos.s"),
-    Other("aarch64", "arm64-apple-macosx11.0", macos, None),
+    Other("aarch64", "arm64-apple-macosx11.0", macos_without_x18, "aarch64_macos.s"),
 ]
