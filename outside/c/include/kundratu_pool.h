@@ -97,8 +97,8 @@
 #error "kundratu_pool has code for x86-64 and AArch64 alone, and for no other processor"
 #elif SIZE_MAX != UINT64_MAX
 #error "kundratu_pool has code for pointers of 64 bits alone"
-#elif defined(__APPLE__) && defined(__aarch64__)
-#error "kundratu_pool uses register x18, which this system keeps for itself"
+#elif defined(_WIN32) && defined(__aarch64__)
+#error "kundratu_pool has code for Windows on x86-64 alone"
 #endif
 
 #ifdef __cplusplus

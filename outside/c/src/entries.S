@@ -8,11 +8,11 @@
 #if defined(__x86_64__) && (defined(__LP64__) || defined(_WIN32))
 #define MARK endbr64
 #define GO jmp
-#elif defined(__aarch64__) && defined(__LP64__) && !defined(__APPLE__)
+#elif defined(__aarch64__) && defined(__LP64__)
 #define MARK hint 34
 #define GO b
 #else
-#error "kundratu_pool has proved code for x86-64, and for AArch64 on Linux, with pointers of 64 bits"
+#error "kundratu_pool has proved code for x86-64, and for AArch64 on Linux and macOS, with pointers of 64 bits"
 #endif
 
 #if defined(_WIN32)
@@ -26,7 +26,11 @@ kdr_\call:
         GO kdr_0_1_0_\call
 .endm
 #elif defined(__APPLE__)
+#if defined(__x86_64__)
         .include "x86_64_macos.s"
+#else
+        .include "aarch64_macos.s"
+#endif
 .macro ENTRY call
         .section __TEXT,__text,regular,pure_instructions
         .p2align 4

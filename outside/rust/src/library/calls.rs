@@ -22,7 +22,8 @@ proved_for!(
         target_endian = "little"
     ),
     all(target_os = "windows", target_arch = "x86_64"),
-    all(target_os = "macos", target_arch = "x86_64")
+    all(target_os = "macos", target_arch = "x86_64"),
+    all(target_os = "macos", target_arch = "aarch64")
 );
 
 pub(crate) use handle::Handle;

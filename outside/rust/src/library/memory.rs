@@ -16,10 +16,15 @@ global_asm!(
     include_str!("../../assembly/x86_64_windows.s"),
     options(att_syntax, raw)
 );
-#[cfg(target_os = "macos")]
+#[cfg(all(target_os = "macos", target_arch = "x86_64"))]
 global_asm!(
     include_str!("../../assembly/x86_64_macos.s"),
     options(att_syntax, raw)
+);
+#[cfg(all(target_os = "macos", target_arch = "aarch64"))]
+global_asm!(
+    include_str!("../../assembly/aarch64_macos.s"),
+    options(raw)
 );
 
 /// Names a function for the code above. No other crate sees the name.
