@@ -1,4 +1,7 @@
-"""Says the text of the proved code for Linux with the directives of other systems. No instruction changes, but where macOS keeps x18."""
+"""Says the text of the proved code for Linux with the directives of other systems.
+
+No instruction changes, but where macOS keeps x18.
+"""
 
 import re
 from collections.abc import Callable
@@ -69,7 +72,8 @@ def named(line: str) -> str:
 
 @dataclass(frozen=True)
 class Other:
-    """A system other than Linux: the processor, clang's name of the target, how its text is made of Linux's, and its file."""
+    """A system other than Linux: its processor, the target as clang names it, how its text is made
+    of Linux's, and its file."""
 
     processor: str
     target: str

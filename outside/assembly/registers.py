@@ -1,9 +1,10 @@
-"""Takes another register in place of x18 in the text for AArch64, for systems that keep x18 for themselves.
+"""Takes another register in place of x18 in the text for AArch64: some systems keep x18.
 
     python3 -B registers.py FILE
 
-prints the text in FILE so. A function that uses x18 takes a register instead that it has no use of, and that a call keeps for its caller.
-So the register is stored beside the one that the function stores first, where its frame has room, and loaded with it.
+prints the text in FILE so. A function that uses x18 takes the first register instead that it
+doesn't use, and that a call keeps for its caller. It stores that register beside the one that it
+stores first, where its frame has room, and loads both together.
 """
 
 import re
@@ -15,7 +16,7 @@ from unwind import with_unwinding
 
 START, END = "\t.cfi_startproc", "\t.cfi_endproc"
 SPARED = re.compile(r"\b([xw])18\b")
-# How a function of this kind begins, storing one register in room for two, and how it loads that at its ends.
+# How such a function stores one register first, in room for two, and how it loads that at its ends.
 STORE = re.compile(r"\tstr\t(x\d+), (\[sp, #-\d+\]!)")
 LOAD = re.compile(r"\tldr\t(x\d+), (\[sp\], #\d+)")
 
@@ -30,12 +31,12 @@ def free_register(lines: list[str]) -> str:
 
 
 def refuse_other_frames(lines: list[str]) -> None:
-    """Nothing but the register that is stored first may lie in the lowest 16 bytes of the frame."""
+    """Only the register that is stored first may lie in the lowest 16 bytes of the frame."""
     stores = [at for at, line in enumerate(lines) if STORE.fullmatch(line)]
-    others = [line for line in lines if re.search(r"\bw?sp\b", line) and not STORE.fullmatch(line) and not LOAD.fullmatch(line)]
-    places = [re.search(r"\[sp, #(\d+)\]$", line) for line in others]
+    moves = [line for line in lines if re.search(r"\bw?sp\b", line) and not LOAD.fullmatch(line)]
+    places = [re.search(r"\[sp, #(\d+)\]$", line) for line in moves[1:]]
     if stores != [0] or not all(place and int(place[1]) >= 16 for place in places):
-        raise Unknown(f"a function that uses x18, and has no room where it stores a register first: {others}")
+        raise Unknown(f"a function that uses x18, and has no room beside its first store: {moves}")
 
 
 def spare_in(told: list[str]) -> list[str]:

@@ -1,6 +1,7 @@
-/* How the cost of calls grows with a pool: instructions, at one size and at one 64 times as large. Of each kind 32 calls run step by
-   step, spread over the places. They cost the same at both sizes. A refusal reads each word twice, and what makes or empties something
-   costs as much a place. */
+/* How the cost of calls grows with a pool: instructions, at one size and at one 64 times as large.
+   Of each kind 32 calls run step by step, spread over the places. They cost the same at both sizes.
+   A refusal reads each word twice. The opening of a pool and the flush of a cache cost as much a
+   place. */
 #include "kundratu_pool.h"
 #include <signal.h>
 #include <stdbool.h>
@@ -9,14 +10,15 @@
 #include <string.h>
 #include <ucontext.h>
 
-enum { STEP_FLAG = 0x100, SMALL = 256, TIMES = 64, LARGE = SMALL * TIMES, SAMPLES = 32, SMALL_ROOM = 8 };
+enum { SMALL = 256, TIMES = 64, LARGE = SMALL * TIMES, SAMPLES = 32, SMALL_ROOM = 8 };
+enum { STEP_FLAG = 0x100 };
 
-/* How many more instructions the larger size may cost: the allocator has other ways for large blocks. */
+/* How many instructions more the larger size may cost: the allocator treats large blocks otherwise. */
 enum { MORE = 1000, MORE_A_WORD = 50 };
 
 enum shape { FLAT, BY_PLACES, BY_WORDS };
 
-/* A kind of call: what it does with the place of a number. A call for each place has one shape alone, which is flat. */
+/* A kind of call: what it does with the place of a number, or once. */
 struct work {
     const char *name;
     void (*call)(size_t at);
@@ -196,7 +198,7 @@ static void switch_steps(int sent, siginfo_t *what, void *context) {
     running->uc_mcontext.gregs[REG_EFL] ^= STEP_FLAG;
 }
 
-/* Of as many calls as there are samples, one runs step by step: at another place of its page each time. */
+/* Of each so many calls one runs step by step, at another place of its page each time. */
 static bool is_sample(size_t at) {
     size_t apart = items / SAMPLES;
     return at % apart == at / apart * 5 % apart;
@@ -211,7 +213,8 @@ static void do_work(const struct work *work, int signal_around) {
     }
 }
 
-/* Does all works with so many places, and counts the instructions of each without those of the signals. */
+/* Does all works with so many places, and counts the instructions of each, without those of the
+   signals. */
 static void do_works(size_t wanted, long *counts, int signal_around) {
     items = wanted;
     for (size_t at = 0; at < WORKS; at++) {
