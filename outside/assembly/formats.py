@@ -53,7 +53,11 @@ def macos(lines: list[str]) -> list[str]:
 
 
 def macos_without_x18(lines: list[str]) -> list[str]:
-    """The text for AArch64 on macOS, which keeps register x18 for itself."""
+    """The text for AArch64 on macOS, which keeps register x18 for itself.
+
+    It also asks that x29 leads to the caller's frame, which check_formats sees. A result of less
+    than 32 bits has to fill them: that of cache_keeps does, and no other call has one.
+    """
     return macos(spare(lines))
 
 
