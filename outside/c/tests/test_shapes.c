@@ -8,10 +8,8 @@
 #include <stdio.h>
 #include <stdlib.h>
 #include <string.h>
-#include <ucontext.h>
 
 enum { SMALL = 256, TIMES = 64, LARGE = SMALL * TIMES, SAMPLES = 32, SMALL_ROOM = 8 };
-enum { STEP_FLAG = 0x100 };
 
 /* How many instructions more the larger size may cost: the allocator treats large blocks otherwise. */
 enum { MORE = 1000, MORE_A_WORD = 50 };
@@ -191,11 +189,14 @@ static void count_step(int sent) {
     steps++;
 }
 
-/* What runs from here on runs step by step, or does so no longer. */
-static void switch_steps(int sent, siginfo_t *what, void *context) {
-    ucontext_t *running = context;
-    (void)sent, (void)what;
-    running->uc_mcontext.gregs[REG_EFL] ^= STEP_FLAG;
+/* What runs from here on runs step by step, or does so no longer, by a flag of the processor. What
+   the compiler keeps below the stack pointer is left alone. */
+static void switch_steps(void) {
+    __asm__ volatile("leaq -128(%%rsp), %%rsp\n\t"
+                     "pushfq\n\t"
+                     "xorq $0x100, (%%rsp)\n\t"
+                     "popfq\n\t"
+                     "leaq 128(%%rsp), %%rsp" ::: "cc", "memory");
 }
 
 /* Of each so many calls one runs step by step, at another place of its page each time. */
@@ -204,22 +205,26 @@ static bool is_sample(size_t at) {
     return at % apart == at / apart * 5 % apart;
 }
 
-static void do_work(const struct work *work, int signal_around) {
+static void do_work(const struct work *work, bool is_counted) {
     for (size_t at = 0; at < (work->is_for_each ? items : 1); at++) {
-        int sent = work->is_for_each && !is_sample(at) ? 0 : signal_around;
-        raise(sent);
+        bool is_stepped = is_counted && (!work->is_for_each || is_sample(at));
+        if (is_stepped) {
+            switch_steps();
+        }
         work->call(at);
-        raise(sent);
+        if (is_stepped) {
+            switch_steps();
+        }
     }
 }
 
-/* Does all works with so many places, and counts the instructions of each, without those of the
-   signals. */
-static void do_works(size_t wanted, long *counts, int signal_around) {
+/* Does all works with so many places. It counts the instructions of each, without those that do
+   nothing. */
+static void do_works(size_t wanted, long *counts, bool is_counted) {
     items = wanted;
     for (size_t at = 0; at < WORKS; at++) {
         steps = 0;
-        do_work(&works[at], signal_around);
+        do_work(&works[at], is_counted);
         counts[at] = steps - (at > 1 ? counts[works[at].is_for_each ? 0 : 1] : 0);
     }
 }
@@ -231,20 +236,17 @@ static bool has_shape(enum shape shape, long small, long large) {
 }
 
 int main(void) {
-    struct sigaction stepped, switched;
+    struct sigaction stepped;
     long small[WORKS], large[WORKS];
     int wrong = 0;
     memset(&stepped, 0, sizeof stepped);
-    memset(&switched, 0, sizeof switched);
     stepped.sa_handler = count_step;
-    switched.sa_sigaction = switch_steps;
-    switched.sa_flags = SA_SIGINFO;
-    if (sigaction(SIGTRAP, &stepped, NULL) != 0 || sigaction(SIGUSR1, &switched, NULL) != 0) {
+    if (sigaction(SIGTRAP, &stepped, NULL) != 0) {
         return 1;
     }
-    do_works(SMALL, small, 0); /* once without steps, so that the loader has done its part */
-    do_works(SMALL, small, SIGUSR1);
-    do_works(LARGE, large, SIGUSR1);
+    do_works(SMALL, small, false); /* once without steps, so that the loader has done its part */
+    do_works(SMALL, small, true);
+    do_works(LARGE, large, true);
     for (size_t at = 2; at < WORKS; at++) {
         bool is_right = has_shape(works[at].shape, small[at], large[at]);
         printf("%s: %ld and %ld instructions%s\n", works[at].name, small[at], large[at], is_right ? "" : ", WRONG");
