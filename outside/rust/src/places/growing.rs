@@ -40,7 +40,7 @@ struct News {
 }
 
 /// The right to a place that was pulled just now, and whether there is an item.
-pub(crate) struct Pulled {
+pub(crate) struct PulledPlace {
     pub(crate) at: usize,
     pub(crate) is_made: bool,
 }
@@ -54,17 +54,17 @@ pub(crate) struct Held {
 // SAFETY: only who has the place goes to the item, if that may be sent to where he is.
 unsafe impl Send for Held {}
 
-impl Pulled {
+impl PulledPlace {
     /// Takes over the right to a place that was returned to this part.
-    fn made(name: PartName, place: Place) -> Pulled {
+    fn made(name: PartName, place: Place) -> PulledPlace {
         let (at, is_made) = (name.at(place.number()), true);
-        Pulled { at, is_made }
+        PulledPlace { at, is_made }
     }
 
     /// Gives the right to a place that nobody had, or whose `init` panicked.
-    fn unmade(at: usize) -> Pulled {
+    fn unmade(at: usize) -> PulledPlace {
         let is_made = false;
-        Pulled { at, is_made }
+        PulledPlace { at, is_made }
     }
 }
 
@@ -111,7 +111,7 @@ impl Growing {
     /// Pulls a place. `item` finds its item, if the thread doesn't keep it, and pulls it before if it
     /// isn't pulled yet.
     #[inline(always)]
-    pub(crate) fn pull(self: &Arc<Self>, item: impl Fn(Option<Pulled>) -> Held) -> Held {
+    pub(crate) fn pull(self: &Arc<Self>, item: impl Fn(Option<PulledPlace>) -> Held) -> Held {
         threads::with_known(|number| {
             let mine = self.mine(number);
             let kept = mine.and_then(Mine::take);
@@ -121,7 +121,7 @@ impl Growing {
 
     /// Pulls a place that the thread doesn't keep.
     #[inline(never)]
-    fn pull_other<I: Fn(Option<Pulled>) -> Held>(
+    fn pull_other<I: Fn(Option<PulledPlace>) -> Held>(
         self: &Arc<Self>,
         mine: Option<Mine<'_>>,
         item: I,
@@ -141,7 +141,7 @@ impl Growing {
     /// Pulls as many returned places as the thread may keep, but one. It only pulls, and who returns
     /// places writes where it pulls them, so each of its pulls would wait for that.
     #[inline(never)]
-    fn pull_ahead(&self, mine: Mine<'_>, item: impl Fn(Option<Pulled>) -> Held) {
+    fn pull_ahead(&self, mine: Mine<'_>, item: impl Fn(Option<PulledPlace>) -> Held) {
         while mine.has_room() {
             let Some(pulled) = self.pull_near(mine) else {
                 break;
@@ -154,7 +154,7 @@ impl Growing {
     /// Pulls a place that was returned, at the part of the thread's last pull, by its handle. `None`
     /// if there is none of them.
     #[inline(always)]
-    fn pull_near(&self, mine: Mine<'_>) -> Option<Pulled> {
+    fn pull_near(&self, mine: Mine<'_>) -> Option<PulledPlace> {
         let way = &mut *mine.way()?;
         let (name, page) = (way.part?, way.page);
         let part = self.part(name);
@@ -163,7 +163,7 @@ impl Growing {
         way.go_on(place.number() / PAGE, part.pages());
         mine.count_pull();
         self.count(Some(mine), 1);
-        Some(Pulled::made(name, place))
+        Some(PulledPlace::made(name, place))
     }
 
     /// Pulls a place that was returned, or one without an item.
@@ -173,7 +173,7 @@ impl Growing {
     /// The part that has to be made, if there is none. `None` if there are too many.
     #[cold]
     #[inline(never)]
-    pub(crate) fn pull_far(self: &Arc<Self>) -> Result<Pulled, Option<PartName>> {
+    pub(crate) fn pull_far(self: &Arc<Self>) -> Result<PulledPlace, Option<PartName>> {
         threads::with(|number| {
             let mine = number.and_then(|number| self.mine_or_new(number));
             if let Some(mine) = mine.filter(|mine| !mine.is_noted()) {

@@ -36,8 +36,8 @@ pub type LazyReusable<'p, T, E> = Guard<&'p LazyPool<T, E>, T>;
 pub type LazyOwnedReusable<T, E> = Guard<Arc<LazyPool<T, E>>, T>;
 
 /// What a pull returns.
-type Pulled<'p, T, E> = Result<LazyReusable<'p, T, E>, PullError<E>>;
-type PulledOwned<T, E> = Result<LazyOwnedReusable<T, E>, PullError<E>>;
+type PullResult<'p, T, E> = Result<LazyReusable<'p, T, E>, PullError<E>>;
+type OwnedPullResult<T, E> = Result<LazyOwnedReusable<T, E>, PullError<E>>;
 type Judge<T> = Box<dyn Fn(&mut T) -> bool + Send + Sync>;
 
 /// A pool of at most so many items, each made when it is first needed: a pool of connections.
@@ -117,7 +117,7 @@ impl<T, E> LazyPool<T, E> {
     /// - `Closed` if the pool is closed.
     /// - `Init` if `init` failed. Then the place is empty.
     #[inline(always)]
-    pub fn pull(&self) -> Pulled<'_, T, E> {
+    pub fn pull(&self) -> PullResult<'_, T, E> {
         Held::plain(self).map_or_else(|| self.pull_now(), Ok)
     }
 
@@ -126,7 +126,7 @@ impl<T, E> LazyPool<T, E> {
     /// # Errors
     ///
     /// As `pull`.
-    pub fn pull_owned(self: &Arc<Self>) -> PulledOwned<T, E> {
+    pub fn pull_owned(self: &Arc<Self>) -> OwnedPullResult<T, E> {
         self.pull().map(|guard| guard.owned(self))
     }
 
@@ -157,7 +157,7 @@ impl<T, E> LazyPool<T, E> {
     ///
     /// `Closed` or `Init`, as `pull`.
     #[inline(always)]
-    pub fn pull_wait(&self) -> Pulled<'_, T, E> {
+    pub fn pull_wait(&self) -> PullResult<'_, T, E> {
         Held::plain(self).map_or_else(|| self.pull_until(None), Ok)
     }
 
@@ -166,7 +166,7 @@ impl<T, E> LazyPool<T, E> {
     /// # Errors
     ///
     /// As `pull_wait`.
-    pub fn pull_owned_wait(self: &Arc<Self>) -> PulledOwned<T, E> {
+    pub fn pull_owned_wait(self: &Arc<Self>) -> OwnedPullResult<T, E> {
         self.pull_wait().map(|guard| guard.owned(self))
     }
 
@@ -179,7 +179,7 @@ impl<T, E> LazyPool<T, E> {
     /// - `TimedOut` if a last try after that time was refused as a `pull`, or found none made.
     /// - `Closed` or `Init`, as `pull`.
     #[inline(always)]
-    pub fn pull_timeout(&self, time: Duration) -> Pulled<'_, T, E> {
+    pub fn pull_timeout(&self, time: Duration) -> PullResult<'_, T, E> {
         let limit = || Instant::now().checked_add(time);
         Held::plain(self).map_or_else(|| self.pull_until(limit()), Ok)
     }
@@ -190,7 +190,7 @@ impl<T, E> LazyPool<T, E> {
     /// # Errors
     ///
     /// As `pull_timeout`.
-    pub fn pull_owned_timeout(self: &Arc<Self>, time: Duration) -> PulledOwned<T, E> {
+    pub fn pull_owned_timeout(self: &Arc<Self>, time: Duration) -> OwnedPullResult<T, E> {
         self.pull_timeout(time).map(|guard| guard.owned(self))
     }
 
@@ -216,13 +216,13 @@ impl<T, E> LazyPool<T, E> {
 
     /// Pulls an item, or makes one.
     #[inline(never)]
-    fn pull_now(&self) -> Pulled<'_, T, E> {
+    fn pull_now(&self) -> PullResult<'_, T, E> {
         self.item(Held::any(self).ok_or(PullError::AllInUse)??, None)
     }
 
     /// Pulls an item, or waits for one until the limit.
     #[inline(never)]
-    fn pull_until(&self, limit: Limit) -> Pulled<'_, T, E> {
+    fn pull_until(&self, limit: Limit) -> PullResult<'_, T, E> {
         let held = Held::any(self).or_else(|| self.wait(limit));
         self.item(held.ok_or(PullError::TimedOut)??, limit)
     }
@@ -244,7 +244,7 @@ impl<T, E> LazyPool<T, E> {
     }
 
     /// Returns the item of a place, or makes one if there is none that is kept.
-    fn item<'p>(&'p self, mut held: Held<'p, T, E>, limit: Limit) -> Pulled<'p, T, E> {
+    fn item<'p>(&'p self, mut held: Held<'p, T, E>, limit: Limit) -> PullResult<'p, T, E> {
         if !self.is_kept(&mut held) {
             self.make(&mut held, limit)?;
         }

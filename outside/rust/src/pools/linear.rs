@@ -1,5 +1,5 @@
 //! A pool that grows, by the names of lockfree-object-pool 0.1.6.
-use crate::places::growing::{Growing, Held, PartName, Parts, Pulled};
+use crate::places::growing::{Growing, Held, PartName, Parts, PulledPlace};
 use crate::places::slots::Slots;
 use crate::pools::guard::{AtEnd, Guard, Source};
 use crate::pools::pool::Reset;
@@ -111,7 +111,7 @@ impl<T> LinearObjectPool<T> {
     /// Returns this place with its item, which is made if there is none. The place is pulled if it
     /// isn't yet.
     #[inline(always)]
-    fn find(&self, pulled: Option<Pulled>) -> Held {
+    fn find(&self, pulled: Option<PulledPlace>) -> Held {
         let pulled = pulled.unwrap_or_else(|| self.pull_far());
         // SAFETY: the place was pulled, and nobody else has it.
         let value = unsafe { &mut *self.slot(pulled.at) };
@@ -128,7 +128,7 @@ impl<T> LinearObjectPool<T> {
     /// that makes one.
     #[cold]
     #[inline(never)]
-    fn make_item(&self, pulled: Pulled, value: &mut Item<T>) -> usize {
+    fn make_item(&self, pulled: PulledPlace, value: &mut Item<T>) -> usize {
         let at = pulled.at;
         let bare = AtEnd(Some(pulled), |pulled| {
             // SAFETY: the place is of this pool.
@@ -144,7 +144,7 @@ impl<T> LinearObjectPool<T> {
     /// Pulls a place of any part. One is made if there is none.
     #[cold]
     #[inline(never)]
-    fn pull_far(&self) -> Pulled {
+    fn pull_far(&self) -> PulledPlace {
         loop {
             match self.places.pull_far() {
                 Ok(pulled) => return pulled,

@@ -2,7 +2,7 @@
 //! item.
 use super::part::Part;
 use super::thread_slot::{Mine, Way};
-use super::{Growing, News, PartName, Pulled};
+use super::{Growing, News, PartName, PulledPlace};
 use crate::atomics::{Ordering::Relaxed, Ordering::SeqCst};
 use crate::library::calls::PAGE;
 use std::sync::PoisonError;
@@ -12,7 +12,7 @@ const ROUNDS: usize = 32;
 
 /// What a look at a part or at all parts found.
 enum Look {
-    Found(Pulled),
+    Found(PulledPlace),
     /// Some part said that a place was returned, but others had pulled it.
     Refused,
     Empty,
@@ -28,7 +28,7 @@ impl Growing {
         &self,
         way: &mut Way,
         mine: Option<Mine<'_>>,
-    ) -> Result<Pulled, Option<PartName>> {
+    ) -> Result<PulledPlace, Option<PartName>> {
         let found = self.find(way);
         mine.filter(|_| found.is_some())
             .into_iter()
@@ -39,7 +39,7 @@ impl Growing {
     /// Gives a place without an item, if no place was returned since the thread's last look, and the
     /// thread's part has such a place.
     #[inline(always)]
-    pub(super) fn unmade_near(&self, mine: Mine<'_>) -> Option<Pulled> {
+    pub(super) fn unmade_near(&self, mine: Mine<'_>) -> Option<PulledPlace> {
         let way = &mut *mine.way()?;
         let is_none_returned = self.changes_since_none(way).is_none();
         let pulled = is_none_returned.then(|| self.unmade(way).ok()).flatten()?;
@@ -49,7 +49,7 @@ impl Growing {
 
     /// Finds a place that was returned. A place that others return and pull may pass by a look at all
     /// parts, so there are more of them while some part says that one may be found.
-    fn find(&self, way: &mut Way) -> Option<Pulled> {
+    fn find(&self, way: &mut Way) -> Option<PulledPlace> {
         for _ in 0..ROUNDS {
             let changes = self.changes_since_none(way)?;
             match self.look(way) {
@@ -76,13 +76,13 @@ impl Growing {
     ///
     /// As `pull_far`.
     #[inline(always)]
-    fn unmade(&self, way: &mut Way) -> Result<Pulled, Option<PartName>> {
+    fn unmade(&self, way: &mut Way) -> Result<PulledPlace, Option<PartName>> {
         if let Some(at) = self.take_bare() {
-            return Ok(Pulled::unmade(at));
+            return Ok(PulledPlace::unmade(at));
         }
         while let Some(part) = self.parts.get(way.last) {
             if let Some(place) = part.fresh() {
-                return Ok(Pulled::unmade(way.last.at(place)));
+                return Ok(PulledPlace::unmade(way.last.at(place)));
             }
             way.last = way.last.next().ok_or(None)?;
         }
@@ -104,7 +104,7 @@ impl Growing {
     }
 
     /// Pulls a place of a part, if it says that one was returned.
-    fn pull_at(&self, name: PartName, part: &Part, way: &mut Way) -> Result<Pulled, Look> {
+    fn pull_at(&self, name: PartName, part: &Part, way: &mut Way) -> Result<PulledPlace, Look> {
         if !part.library.may_have_some() {
             return Err(Look::Empty);
         }
@@ -113,7 +113,7 @@ impl Growing {
         let place = place.ok_or(Look::Refused)?;
         way.part = Some(name);
         way.go_on(place.number() / PAGE, part.pages());
-        Ok(Pulled::made(name, place))
+        Ok(PulledPlace::made(name, place))
     }
 
     /// Leaves a place without an item to a later pull that makes one. If that is refused memory, the
@@ -123,7 +123,7 @@ impl Growing {
     ///
     /// The place is of this pool.
     #[cold]
-    pub(crate) unsafe fn leave_bare(&self, place: Pulled) {
+    pub(crate) unsafe fn leave_bare(&self, place: PulledPlace) {
         self.news.0.pulled.add(-1);
         self.with_bare(|bare| {
             if bare.try_reserve(1).is_ok() {

@@ -1,5 +1,5 @@
 //! Pulls of a lazy pool that wait as tasks.
-use super::{LazyPool, Pulled, PulledOwned, Turn};
+use super::{LazyPool, OwnedPullResult, PullResult, Turn};
 use std::{future::Future, sync::Arc};
 
 impl<T, E> LazyPool<T, E> {
@@ -24,7 +24,7 @@ impl<T, E> LazyPool<T, E> {
     ///     Ok(buffer.len())
     /// }
     /// ```
-    pub async fn pull_async(&self) -> Pulled<'_, T, E> {
+    pub async fn pull_async(&self) -> PullResult<'_, T, E> {
         let held = Turn::new(self).await?;
         self.item(held, None)
     }
@@ -34,7 +34,7 @@ impl<T, E> LazyPool<T, E> {
     /// # Errors
     ///
     /// As `pull_async`.
-    pub fn pull_owned_async(self: &Arc<Self>) -> impl Future<Output = PulledOwned<T, E>> {
+    pub fn pull_owned_async(self: &Arc<Self>) -> impl Future<Output = OwnedPullResult<T, E>> {
         let pool = Arc::clone(self);
         async move {
             let pulled = pool.pull_async().await;
@@ -60,7 +60,7 @@ impl<T, E> LazyPool<T, E> {
     ///     Ok(*connection)
     /// }
     /// ```
-    pub async fn pull_async_with<F>(&self, init: F) -> Pulled<'_, T, E>
+    pub async fn pull_async_with<F>(&self, init: F) -> PullResult<'_, T, E>
     where
         F: Future<Output = Result<T, E>>,
     {
@@ -80,7 +80,7 @@ impl<T, E> LazyPool<T, E> {
     pub fn pull_owned_async_with<F>(
         self: &Arc<Self>,
         init: F,
-    ) -> impl Future<Output = PulledOwned<T, E>>
+    ) -> impl Future<Output = OwnedPullResult<T, E>>
     where
         F: Future<Output = Result<T, E>>,
     {
