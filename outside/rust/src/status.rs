@@ -31,13 +31,10 @@ impl Status {
 }
 
 /// How many items a thread pulled, less those that it returned. Others read it.
+#[derive(Default)]
 pub(crate) struct Pulled(AtomicUsize);
 
 impl Pulled {
-    pub(crate) const fn new() -> Pulled {
-        Pulled(AtomicUsize::new(0))
-    }
-
     /// Adds to a count that this thread alone changes.
     #[inline(always)]
     pub(crate) fn add_own(&self, more: isize) {

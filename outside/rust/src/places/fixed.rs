@@ -50,11 +50,7 @@ struct Way {
 }
 
 impl Fixed {
-    /// Creates so many free places.
-    ///
-    /// # Errors
-    ///
-    /// `NoItems` if there are none, or `Memory`.
+    /// Creates so many free places. Fails if there are none, or if memory is refused.
     pub(crate) fn new(places: usize) -> Result<Fixed, NewError> {
         if places == 0 {
             return Err(NewError::NoItems);
@@ -62,7 +58,7 @@ impl Fixed {
         Ok(Fixed {
             library: OwnLines(Library::new(places).ok_or(NewError::Memory)?),
             thread_slots: ThreadSlots::new(),
-            pulled: Pulled::new(),
+            pulled: Pulled::default(),
         })
     }
 
@@ -90,23 +86,17 @@ impl Fixed {
             Some((thread_slot, own)) => {
                 let way = &mut *own.way.borrow_mut();
                 let place = way.pull(&self.library.0);
-                let place = place.or_else(|| self.look(&mut way.handle))?;
-                thread_slot.pulled.add_own(1);
-                Some(place)
+                let place = place.or_else(|| self.look(&mut way.handle));
+                place.inspect(|_| thread_slot.pulled.add_own(1))
             }
             None => {
-                let place = self.look(&mut OwnHandle::empty())?;
-                self.pulled.add(1);
-                Some(place)
+                let place = self.look(&mut OwnHandle::empty());
+                place.inspect(|_| self.pulled.add(1))
             }
         })
     }
 
-    /// Returns a place.
-    ///
-    /// # Safety
-    ///
-    /// The place is of this pool.
+    /// Returns a place. Safety: it is of this pool.
     #[inline(always)]
     pub(crate) unsafe fn give_back(&self, place: Place) {
         let kept = threads::with_known(|number| match self.thread_slots.get(number) {
@@ -119,11 +109,7 @@ impl Fixed {
         }
     }
 
-    /// Returns a place that the thread doesn't keep.
-    ///
-    /// # Safety
-    ///
-    /// The place is of this pool.
+    /// Returns a place that the thread doesn't keep. Safety: it is of this pool.
     #[inline(never)]
     unsafe fn give_back_further(&self, place: Place) {
         // SAFETY: the handles below are of this pool, and the caller says it of the place.
@@ -144,29 +130,25 @@ impl Fixed {
 
     /// Returns what a thread has, which is made if it isn't there. `None` if memory is refused.
     fn own<'o>(&'o self, number: &'o Number) -> Option<(&'o ThreadSlot, &'o Own)> {
-        let thread_slot = match self.thread_slots.get(number) {
-            Some(thread_slot) => &thread_slot.0,
-            None => self.new_thread_slot(number)?,
-        };
+        let thread_slot = self.thread_slots.get(number);
+        let new = || self.thread_slots.make(number, self.new_thread_slot(number));
+        let OwnLines(thread_slot) = thread_slot.or_else(new)?;
         Some((thread_slot, thread_slot.own.get(number)))
     }
 
     #[cold]
-    fn new_thread_slot(&self, number: &Number) -> Option<&ThreadSlot> {
-        let pages = self.places().div_ceil(PAGE);
-        let mut way = Way::new(number.get(), pages);
+    fn new_thread_slot(&self, number: &Number) -> OwnLines<ThreadSlot> {
+        let mut way = Way::new(number.get(), self.places().div_ceil(PAGE));
         way.handle = self.library.0.open();
         let own = Own {
             empty: Cell::new(Kept::NONE),
             way: RefCell::new(way),
         };
-        let thread_slot = OwnLines(ThreadSlot {
+        OwnLines(ThreadSlot {
             kept: Kept::new(),
-            pulled: Pulled::new(),
+            pulled: Pulled::default(),
             own: Owned::new(number, own),
-        });
-        let made = self.thread_slots.make(number, thread_slot)?;
-        Some(&made.0)
+        })
     }
 
     /// Pulls a place that a thread keeps or that the library has. `None` if all were out at a moment
@@ -194,11 +176,7 @@ impl Fixed {
         }
     }
 
-    /// Takes a place that a thread keeps.
-    ///
-    /// # Errors
-    ///
-    /// How often threads kept a place until none did.
+    /// Takes a place that a thread keeps. If none does, this returns how often threads kept one.
     fn take_kept(&self) -> Result<Place, u64> {
         let mut count = 0_u64;
         for thread_slot in self.thread_slots.all() {

@@ -28,6 +28,7 @@ pub(crate) struct Growing {
 }
 
 /// What who makes an item reads.
+#[derive(Default)]
 struct News {
     /// How often a part came to have a place that may be found. If no part had one, that is so until
     /// there is one more change.
@@ -39,7 +40,8 @@ struct News {
     pulled: status::Pulled,
 }
 
-/// The right to a place that was pulled just now, and whether there is an item.
+/// The right to a place that was pulled just now. There is an item if the place was returned, and
+/// none if nobody had it, or if its `init` panicked.
 pub(crate) struct PulledPlace {
     pub(crate) at: usize,
     pub(crate) is_made: bool,
@@ -54,31 +56,12 @@ pub(crate) struct Held {
 // SAFETY: only who has the place goes to the item, if that may be sent to where he is.
 unsafe impl Send for Held {}
 
-impl PulledPlace {
-    /// Takes over the right to a place that was returned to this part.
-    fn made(name: PartName, place: Place) -> PulledPlace {
-        let (at, is_made) = (name.at(place.number()), true);
-        PulledPlace { at, is_made }
-    }
-
-    /// Gives the right to a place that nobody had, or whose `init` panicked.
-    fn unmade(at: usize) -> PulledPlace {
-        let is_made = false;
-        PulledPlace { at, is_made }
-    }
-}
-
 impl Growing {
     pub(crate) fn new() -> Growing {
         Growing {
             parts: Parts::new(),
             thread_slots: ThreadSlots::new(),
-            news: OwnLines(News {
-                changes: AtomicUsize::new(0),
-                bare: Mutex::new(Vec::new()),
-                bare_count: AtomicUsize::new(0),
-                pulled: status::Pulled::new(),
-            }),
+            news: OwnLines(News::default()),
         }
     }
 
@@ -163,14 +146,11 @@ impl Growing {
         way.go_on(place.number() / PAGE, part.pages());
         mine.count_pull();
         self.count(Some(mine), 1);
-        Some(PulledPlace::made(name, place))
+        Some(name.pulled(place))
     }
 
-    /// Pulls a place that was returned, or one without an item.
-    ///
-    /// # Errors
-    ///
-    /// The part that has to be made, if there is none. `None` if there are too many.
+    /// Pulls a place that was returned, or one without an item. If there is none, this returns which
+    /// part has to be made, or `None` if there are too many.
     #[cold]
     #[inline(never)]
     pub(crate) fn pull_far(self: &Arc<Self>) -> Result<PulledPlace, Option<PartName>> {
@@ -182,17 +162,12 @@ impl Growing {
             let pulled = match mine.and_then(Mine::way) {
                 Some(mut way) => self.find_or_unmade(&mut way, mine),
                 None => self.find_or_unmade(&mut Way::new(PartName::first(0), false), None),
-            }?;
-            self.count(mine, 1);
-            Ok(pulled)
+            };
+            pulled.inspect(|_| self.count(mine, 1))
         })
     }
 
-    /// Returns a place, which the thread may keep.
-    ///
-    /// # Safety
-    ///
-    /// The place is of this pool.
+    /// Returns a place, which the thread may keep. Safety: it is of this pool.
     #[inline(always)]
     pub(crate) unsafe fn give_back(self: &Arc<Self>, held: Held) {
         threads::with_known(|number| {
@@ -201,20 +176,14 @@ impl Growing {
                 Some(mine) => mine.keep(held),
                 None => Err(held),
             };
-            if let Err(held) = kept {
-                // SAFETY: the caller says that it is of this pool.
-                unsafe { self.give_back_other(mine, held) };
-            }
+            // SAFETY: the caller says that it is of this pool.
+            kept.unwrap_or_else(|held| unsafe { self.give_back_other(mine, held) });
         });
     }
 
     /// Returns a place of a thread that keeps as many as it may, or isn't noted. If it only returns
     /// places, so do those that it keeps but the last one: who pulls places writes where they go, so
-    /// each of many returns would wait for that.
-    ///
-    /// # Safety
-    ///
-    /// The place is of this pool.
+    /// each of many returns would wait for that. Safety: the place is of this pool.
     #[inline(never)]
     unsafe fn give_back_other(self: &Arc<Self>, mine: Option<Mine<'_>>, held: Held) {
         // A thread that isn't noted keeps this one, which it doesn't count.
@@ -229,11 +198,7 @@ impl Growing {
     }
 
     /// Returns a place by the thread's handle of its part. If there is none, the place is returned as
-    /// `give_back_far` does.
-    ///
-    /// # Safety
-    ///
-    /// The place is of this pool.
+    /// `give_back_far` does. Safety: it is of this pool.
     #[inline(always)]
     unsafe fn give_back_near(self: &Arc<Self>, mine: Option<Mine<'_>>, held: Held) {
         let mut way = mine.and_then(Mine::way);
@@ -250,11 +215,7 @@ impl Growing {
     }
 
     /// Keeps a place of a thread that isn't noted, which is noted then. Else this returns it by a
-    /// handle of its part, which is opened if it isn't.
-    ///
-    /// # Safety
-    ///
-    /// The place is of this pool.
+    /// handle of its part, which is opened if it isn't. Safety: the place is of this pool.
     #[cold]
     #[inline(never)]
     unsafe fn give_back_far(self: &Arc<Self>, mut held: Held) {
@@ -280,11 +241,8 @@ impl Growing {
         });
     }
 
-    /// Returns a place by this handle, and counts it for the thread.
-    ///
-    /// # Safety
-    ///
-    /// The place is of this pool, and the handle of its part.
+    /// Returns a place by this handle, and counts it for the thread. Safety: the place is of this
+    /// pool, and the handle of its part.
     #[inline(always)]
     unsafe fn give_back_by(&self, handle: &mut OwnHandle, mine: Option<Mine<'_>>, held: Held) {
         self.count(mine, -1);
@@ -292,12 +250,9 @@ impl Growing {
         let count_change = || _ = self.news.0.changes.fetch_add(1, SeqCst);
         // SAFETY: `held` was the right to this place.
         let place = unsafe { Place::held(place) };
+        let library = &self.part(name).library;
         // SAFETY: the caller says that the handle and the place are of this part.
-        unsafe {
-            self.part(name)
-                .library
-                .give_back(handle, place, count_change)
-        };
+        unsafe { library.give_back(handle, place, count_change) };
     }
 
     /// Notes that a thread keeps places, which it returns at its end. `None` if memory is refused.

@@ -17,11 +17,7 @@ impl Kept {
         Kept(AtomicU64::new(Kept::NONE))
     }
 
-    /// Takes the place, for any thread.
-    ///
-    /// # Errors
-    ///
-    /// How often one was kept until there was none.
+    /// Takes the place, for any thread. If there is none, this returns how often one was kept.
     pub(super) fn take(&self) -> Result<Place, u64> {
         let mut seen = self.load();
         while seen & Kept::NONE != Kept::NONE {
@@ -46,22 +42,14 @@ impl Kept {
         (seen != empty).then(|| unsafe { Kept::place(seen) })
     }
 
-    /// Takes over the right to the place that is kept in a word.
-    ///
-    /// # Safety
-    ///
-    /// It was taken out of the word just now.
+    /// Takes over the right to the place that is kept in a word. Safety: it was taken out just now.
     #[inline(always)]
     unsafe fn place(word: u64) -> Place {
         // SAFETY: who kept it had it, and nobody else has it now.
         unsafe { Place::held((word & Kept::NONE) as usize) }
     }
 
-    /// Keeps a place for the thread itself, and counts it.
-    ///
-    /// # Errors
-    ///
-    /// The place, if there is one.
+    /// Keeps a place for the thread itself, and counts it, or returns it if there is one.
     #[inline(always)]
     pub(super) fn keep(&self, place: Place, empty: &Cell<u64>) -> Result<(), Place> {
         let number = place.number() as u64;

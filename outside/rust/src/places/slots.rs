@@ -2,7 +2,6 @@
 use crate::refuse;
 use std::alloc::{alloc_zeroed, Layout};
 use std::cell::UnsafeCell;
-use std::collections::TryReserveError;
 use std::ptr::NonNull;
 
 /// A value at a place. Who holds the place reaches it.
@@ -23,19 +22,14 @@ impl<V> Slots<V> {
     /// Creates the slots of these values, in their order. `None` if memory is refused.
     pub(crate) fn new(values: impl ExactSizeIterator<Item = V>) -> Option<Slots<V>> {
         let mut slots = Vec::new();
-        slots
-            .try_reserve_exact(Self::with_room(values.len())?)
-            .ok()?;
+        let capacity = Self::with_room(values.len())?;
+        slots.try_reserve_exact(capacity).ok()?;
         slots.extend(values.map(|value| Slot(UnsafeCell::new(value))));
         Some(Slots(slots))
     }
 
     /// Creates so many slots of zeros. Each page of their memory is first touched when one of its
-    /// slots is. `None` if memory is refused.
-    ///
-    /// # Safety
-    ///
-    /// Zeros are a value, which isn't of size 0.
+    /// slots is. `None` if memory is refused. Safety: zeros are a value, which isn't of size 0.
     pub(crate) unsafe fn zeroed(count: usize) -> Option<Slots<V>> {
         let capacity = Self::with_room(count)?;
         let layout = Layout::array::<Slot<V>>(capacity).ok()?;
@@ -70,17 +64,10 @@ impl<V> Slots<V> {
     }
 }
 
-/// Creates so many values.
-///
-/// # Errors
-///
-/// If memory is refused.
-pub(crate) fn filled<V>(
-    length: usize,
-    value: impl FnMut() -> V,
-) -> Result<Vec<V>, TryReserveError> {
+/// Creates so many values. `None` if memory is refused.
+pub(crate) fn filled<V>(length: usize, value: impl FnMut() -> V) -> Option<Vec<V>> {
     let mut values = Vec::new();
-    values.try_reserve_exact(length)?;
+    values.try_reserve_exact(length).ok()?;
     values.resize_with(length, value);
-    Ok(values)
+    Some(values)
 }

@@ -1,8 +1,6 @@
 //! A pool whose items are made when they are first needed, by an initializer that may fail.
 mod builder;
-mod empties;
 mod error;
-mod events;
 #[allow(unsafe_code)]
 mod held;
 mod idle;
@@ -17,10 +15,10 @@ mod waiters;
 
 use crate::places::slots::Slots;
 use crate::pools::{guard::Guard, or_else::OrElse, pool::NewError};
+use crate::status::Status;
 use builder::Calls;
-pub use builder::{Builder, BuilderOf, Manager};
+pub use builder::{Builder, BuilderOf, Event, Manager};
 pub use error::PullError;
-pub use events::Event;
 use held::{keep_if, Got, Held};
 use idle::{Entry, Times};
 use places::Places;
@@ -99,8 +97,7 @@ impl<T, E> LazyPool<T, E> {
         BuilderOf::new(items)
     }
 
-    /// Checks each free item before it is pulled. If the check returns `false`, the item is
-    /// dropped, and the pull makes another one in its place.
+    /// Checks each free item before it is pulled, as [`check`](Builder::check) of a builder says.
     #[must_use]
     pub fn with_check(mut self, check: impl Fn(&mut T) -> bool + Send + Sync + 'static) -> Self {
         self.calls.check = Some(Box::new(check));
@@ -121,11 +118,7 @@ impl<T, E> LazyPool<T, E> {
         Held::plain(self).map_or_else(|| self.pull_now(), Ok)
     }
 
-    /// Pulls an item as [`pull`](LazyPool::pull) does, with a guard that keeps the pool.
-    ///
-    /// # Errors
-    ///
-    /// As `pull`.
+    /// Pulls an item, or fails, as [`pull`](LazyPool::pull) does, with a guard that keeps the pool.
     pub fn pull_owned(self: &Arc<Self>) -> OwnedPullResult<T, E> {
         self.pull().map(|guard| guard.owned(self))
     }
@@ -161,11 +154,8 @@ impl<T, E> LazyPool<T, E> {
         Held::plain(self).map_or_else(|| self.pull_until(None), Ok)
     }
 
-    /// Pulls an item as [`pull_wait`](LazyPool::pull_wait) does, with a guard that keeps the pool.
-    ///
-    /// # Errors
-    ///
-    /// As `pull_wait`.
+    /// Pulls an item, or fails, as [`pull_wait`](LazyPool::pull_wait) does, with a guard that keeps
+    /// the pool.
     pub fn pull_owned_wait(self: &Arc<Self>) -> OwnedPullResult<T, E> {
         self.pull_wait().map(|guard| guard.owned(self))
     }
@@ -184,12 +174,8 @@ impl<T, E> LazyPool<T, E> {
         Held::plain(self).map_or_else(|| self.pull_until(limit()), Ok)
     }
 
-    /// Pulls an item as [`pull_timeout`](LazyPool::pull_timeout) does, with a guard that keeps the
-    /// pool.
-    ///
-    /// # Errors
-    ///
-    /// As `pull_timeout`.
+    /// Pulls an item, or fails, as [`pull_timeout`](LazyPool::pull_timeout) does, with a guard that
+    /// keeps the pool.
     pub fn pull_owned_timeout(self: &Arc<Self>, time: Duration) -> OwnedPullResult<T, E> {
         self.pull_timeout(time).map(|guard| guard.owned(self))
     }
@@ -204,6 +190,16 @@ impl<T, E> LazyPool<T, E> {
     /// Returns whether the pool is closed.
     pub fn is_closed(&self) -> bool {
         self.places.signs().load().is_closed()
+    }
+
+    /// Returns how many items there may be, are made, are in use, and are waited for.
+    ///
+    /// It reads a count of each thread that came to the pool.
+    pub fn status(&self) -> Status {
+        let places = &self.places;
+        let counts = Status::new([places.count(), places.made(), places.in_use()]);
+        let waiting = places.signs().load().waiting();
+        Status { waiting, ..counts }
     }
 
     /// Ends the pool, and returns its items.
@@ -225,6 +221,12 @@ impl<T, E> LazyPool<T, E> {
     fn pull_until(&self, limit: Limit) -> PullResult<'_, T, E> {
         let held = Held::any(self).or_else(|| self.wait(limit));
         self.item(held.ok_or(PullError::TimedOut)??, limit)
+    }
+
+    fn emit(&self, event: Event) {
+        if let Some(call) = &self.calls.on_event {
+            call(event);
+        }
     }
 
     #[cold]

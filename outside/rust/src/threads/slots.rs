@@ -42,7 +42,7 @@ impl<S> ThreadSlots<S> {
             return first.set(thread_slot);
         }
         let group = (number.get() / FIRST).ilog2();
-        let thread_slots = filled(FIRST << group, OnceBox::new).ok()?;
+        let thread_slots = filled(FIRST << group, OnceBox::new)?;
         self.groups[group as usize].set(thread_slots)?;
         self.later(number.get())?.set(thread_slot)
     }

@@ -2,7 +2,7 @@
 //! item.
 use super::part::Part;
 use super::thread_slot::{Mine, Way};
-use super::{Growing, News, PartName, PulledPlace};
+use super::{Growing, PartName, PulledPlace};
 use crate::atomics::{Ordering::Relaxed, Ordering::SeqCst};
 use crate::library::calls::PAGE;
 use std::sync::PoisonError;
@@ -19,21 +19,17 @@ enum Look {
 }
 
 impl Growing {
-    /// Finds a place that was returned, or gives one without an item.
-    ///
-    /// # Errors
-    ///
-    /// As `pull_far`.
+    /// Finds a place that was returned, or gives one without an item, or fails as `pull_far` does.
     pub(super) fn find_or_unmade(
         &self,
         way: &mut Way,
         mine: Option<Mine<'_>>,
     ) -> Result<PulledPlace, Option<PartName>> {
-        let found = self.find(way);
-        mine.filter(|_| found.is_some())
-            .into_iter()
-            .for_each(Mine::count_pull);
-        found.map_or_else(|| self.unmade(way), Ok)
+        let Some(found) = self.find(way) else {
+            return self.unmade(way);
+        };
+        mine.into_iter().for_each(Mine::count_pull);
+        Ok(found)
     }
 
     /// Gives a place without an item, if no place was returned since the thread's last look, and the
@@ -70,19 +66,16 @@ impl Growing {
     }
 
     /// Gives a place without an item: one whose `init` panicked, or one that nobody had, of the last
-    /// part of this shard.
-    ///
-    /// # Errors
-    ///
-    /// As `pull_far`.
+    /// part of this shard. Fails as `pull_far` does.
     #[inline(always)]
     fn unmade(&self, way: &mut Way) -> Result<PulledPlace, Option<PartName>> {
+        let unmade = |at| PulledPlace { at, is_made: false };
         if let Some(at) = self.take_bare() {
-            return Ok(PulledPlace::unmade(at));
+            return Ok(unmade(at));
         }
         while let Some(part) = self.parts.get(way.last) {
             if let Some(place) = part.fresh() {
-                return Ok(PulledPlace::unmade(way.last.at(place)));
+                return Ok(unmade(way.last.at(place)));
             }
             way.last = way.last.next().ok_or(None)?;
         }
@@ -113,15 +106,11 @@ impl Growing {
         let place = place.ok_or(Look::Refused)?;
         way.part = Some(name);
         way.go_on(place.number() / PAGE, part.pages());
-        Ok(PulledPlace::made(name, place))
+        Ok(name.pulled(place))
     }
 
     /// Leaves a place without an item to a later pull that makes one. If that is refused memory, the
-    /// place isn't used any more.
-    ///
-    /// # Safety
-    ///
-    /// The place is of this pool.
+    /// place isn't used any more. Safety: it is of this pool.
     #[cold]
     pub(crate) unsafe fn leave_bare(&self, place: PulledPlace) {
         self.news.0.pulled.add(-1);
@@ -134,12 +123,10 @@ impl Growing {
 
     /// Makes this call with the places that have no items, and counts them.
     fn with_bare<A>(&self, call: impl FnOnce(&mut Vec<usize>) -> A) -> A {
-        let News {
-            bare, bare_count, ..
-        } = &self.news.0;
-        let mut bare = bare.lock().unwrap_or_else(PoisonError::into_inner);
+        let news = &self.news.0;
+        let mut bare = news.bare.lock().unwrap_or_else(PoisonError::into_inner);
         let answer = call(&mut bare);
-        bare_count.store(bare.len(), Relaxed);
+        news.bare_count.store(bare.len(), Relaxed);
         answer
     }
 

@@ -1,4 +1,6 @@
 //! The parts of a pool that grows, and their names.
+use super::PulledPlace;
+use crate::library::Place;
 use crate::once::OnceBox;
 
 /// How many shards a pool has. So many threads pull and return without meeting.
@@ -63,6 +65,13 @@ impl PartName {
     #[inline(always)]
     pub(super) fn at(self, place: usize) -> usize {
         place * Self::ALL + self.number()
+    }
+
+    /// Takes over the right to a place that was returned to the part of this name.
+    #[inline(always)]
+    pub(super) fn pulled(self, place: Place) -> PulledPlace {
+        let (at, is_made) = (self.at(place.number()), true);
+        PulledPlace { at, is_made }
     }
 }
 

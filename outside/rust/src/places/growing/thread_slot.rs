@@ -74,7 +74,7 @@ impl ThreadSlot {
         };
         ThreadSlot {
             kept: AtomicUsize::new(UNUSED),
-            pulled: Pulled::new(),
+            pulled: Pulled::default(),
             own: Owned::new(number, own),
         }
     }
@@ -88,9 +88,10 @@ impl ThreadSlot {
 
     /// Returns how many places the thread keeps.
     pub(super) fn kept(&self) -> usize {
-        Some(self.kept.load(Relaxed))
-            .filter(|kept| *kept != UNUSED)
-            .unwrap_or(0)
+        match self.kept.load(Relaxed) {
+            UNUSED => 0,
+            kept => kept,
+        }
     }
 }
 
@@ -108,9 +109,7 @@ impl<'s> Mine<'s> {
     /// Begins the work of a thread, whose end returns what it keeps here.
     pub(super) fn begin(self) {
         self.set_count(0);
-        for count in [&self.own.pulls, &self.own.returns] {
-            count.set(0);
-        }
+        [&self.own.pulls, &self.own.returns].map(|count| count.set(0));
     }
 
     /// Ends the work of a thread, which keeps nothing any more.
@@ -124,11 +123,7 @@ impl<'s> Mine<'s> {
         self.count() != UNUSED
     }
 
-    /// Keeps a place.
-    ///
-    /// # Errors
-    ///
-    /// The place, if there is no room.
+    /// Keeps a place, or returns it if there is no room.
     #[inline(always)]
     pub(super) fn keep(self, held: Held) -> Result<(), Held> {
         let count = self.count();

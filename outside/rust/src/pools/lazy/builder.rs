@@ -2,7 +2,7 @@
 use super::idle::Times;
 use super::places::Places;
 use super::signs::Order;
-use super::{Event, Judge, LazyPool};
+use super::{Judge, LazyPool};
 use crate::places::slots::Slots;
 use crate::pools::pool::NewError;
 use std::fmt::{self, Debug, Formatter};
@@ -77,6 +77,20 @@ pub struct Builder<T, E> {
     order: Order,
     times: Times,
     least: usize,
+}
+
+/// What happened in a [`LazyPool`], as [`on_event`](Builder::on_event) tells it.
+#[derive(Clone, Copy, Debug, PartialEq, Eq, Hash)]
+#[non_exhaustive]
+pub enum Event {
+    /// An item was pulled.
+    Pulled,
+    /// An item was made.
+    Made,
+    /// An item wasn't made, since its initializer failed.
+    Failed,
+    /// A pull found no item, and waits for one.
+    Waits,
 }
 
 /// What a pool calls.

@@ -44,10 +44,8 @@ impl<'p, T, E> Held<'p, T, E> {
 
     /// Creates the holder of a place that was pulled of this pool just now, if one was.
     pub(super) fn of(pool: &'p LazyPool<T, E>, any: Any) -> Got<'p, T, E> {
-        Some(match any? {
-            Ok(place) => Ok(Held { pool, place }),
-            Err(Closed) => Err(PullError::Closed),
-        })
+        let held = |place| Held { pool, place };
+        any.map(|any| any.map(held).map_err(|Closed| PullError::Closed))
     }
 
     /// Borrows what lies at the place.

@@ -1,5 +1,4 @@
 //! The places of a lazy pool: those that are empty, those with an item, and who waits for one.
-use super::empties::Empties;
 use super::queue::{Queue, Wake};
 use super::signs::{Order, Seen, Signs};
 use super::waiters::{Limit, Waiters};
@@ -7,8 +6,8 @@ use crate::library::Place;
 use crate::places::fixed::Fixed;
 use crate::pools::pool::NewError;
 use std::iter;
+use std::sync::atomic::{AtomicU64, Ordering::SeqCst};
 
-#[derive(Debug, PartialEq)]
 pub(super) struct Closed;
 
 /// A place, if one is free, or that the pool is closed.
@@ -27,19 +26,40 @@ pub(super) struct Places {
     pub(super) queue: Queue,
 }
 
+/// How many places are empty and free, and in the upper half how often one came: if it is the same
+/// at two moments, and none was free, then none was free between them.
+struct Empties(AtomicU64);
+
+impl Empties {
+    /// Returns how many there are, and how often one came.
+    fn load(&self) -> [u32; 2] {
+        let now = self.0.load(SeqCst);
+        [now as u32, (now >> 32) as u32]
+    }
+
+    /// Counts one less, before it is pulled. Returns `false` if there is none.
+    fn take(&self) -> bool {
+        let less = |now: u64| (now as u32 != 0).then(|| now - 1);
+        self.0.fetch_update(SeqCst, SeqCst, less).is_ok()
+    }
+
+    /// Counts one more, after it was returned.
+    fn put(&self) {
+        self.0.fetch_add((1 << 32) + 1, SeqCst);
+    }
+}
+
 impl Places {
-    /// Creates so many empty places.
-    ///
-    /// # Errors
-    ///
-    /// `NoItems` if there are none, or `Memory`, also if they are more than can be counted.
+    /// Creates so many empty places. Fails if there are none, or more than can be counted, or if
+    /// memory is refused.
     pub(super) fn new(places: usize, order: Order) -> Result<Places, NewError> {
         let [empty, made] = [Fixed::new(places)?, Fixed::new(places)?];
         while made.pull().is_some() {} // no item is made yet
+        let count = u32::try_from(places).map_err(|_| NewError::Memory)?;
         Ok(Places {
             empty,
             made,
-            empties: Empties::new(places).ok_or(NewError::Memory)?,
+            empties: Empties(AtomicU64::new(count.into())),
             order,
             waiters: Waiters::default(),
             queue: Queue::default(),
@@ -52,7 +72,7 @@ impl Places {
 
     /// Returns how many have an item, or are to have one.
     pub(super) fn made(&self) -> usize {
-        self.count() - self.empties.load().count()
+        self.count() - self.empties.load()[0] as usize
     }
 
     /// Returns how many are in use: pulled of one kind, and not returned as either.
@@ -77,12 +97,9 @@ impl Places {
 
     /// Pulls an empty place. `None` if there was none at one moment.
     pub(super) fn pull_empty(&self) -> Option<Place> {
+        self.empties.take().then_some(())?;
         // One is free if it was counted. A look that misses it is made again.
-        let looks = || iter::repeat_with(|| self.empty.pull());
-        self.empties
-            .take()
-            .then(|| looks().flatten().next())
-            .flatten()
+        iter::repeat_with(|| self.empty.pull()).find_map(|place| place)
     }
 
     /// Pulls a place with an item, if the pool has nothing else to mind.
@@ -125,7 +142,7 @@ impl Places {
             if signs.is_closed() {
                 return Some(Err(Closed));
             }
-            let is_none_made = signs.says_none_made() && !empties.is_none();
+            let is_none_made = signs.says_none_made() && empties[0] != 0;
             if let Some(place) = (!is_none_made).then(|| self.pull_made()).flatten() {
                 return Some(Ok(place));
             }
@@ -133,7 +150,7 @@ impl Places {
                 self.signs().none_found(signs);
                 return Some(Ok(place));
             }
-            if empties.is_none() && empties == self.empties.load() {
+            if empties[0] == 0 && empties == self.empties.load() {
                 return None;
             }
         }
@@ -158,11 +175,8 @@ impl Places {
     }
 
     /// Returns a place, to which nobody comes from now on, and tells those that wait. Returns
-    /// whether the pool is closed.
-    ///
-    /// # Safety
-    ///
-    /// It is of this pool. It has an item, or has none, as this says.
+    /// whether the pool is closed. Safety: the place is of this pool, and has an item or none as
+    /// `is_made` says.
     #[inline(always)]
     pub(super) unsafe fn give_back(&self, place: Place, is_made: bool) -> bool {
         if is_made {

@@ -50,12 +50,15 @@ struct Waiter {
 }
 
 impl Line {
+    fn index(&self, ticket: u64) -> Option<usize> {
+        let all = &self.all;
+        all.binary_search_by_key(&ticket, |waiter| waiter.ticket)
+            .ok()
+    }
+
     /// Removes who has this ticket, and returns it.
     fn remove(&mut self, ticket: u64) -> Option<Waiter> {
-        let index = self
-            .all
-            .binary_search_by_key(&ticket, |waiter| waiter.ticket);
-        let waiter = self.all.remove(index.ok()?)?;
+        let waiter = self.all.remove(self.index(ticket)?)?;
         self.served -= usize::from(waiter.place.is_some());
         Some(waiter)
     }
@@ -127,31 +130,23 @@ impl Queue {
         if signs.load().is_closed() {
             let waiter = line.remove(ticket);
             self.count_off(signs);
-            drop(line);
-            drop(waiter);
+            drop((line, waiter));
             return Some(Err(Closed));
         }
-        let index = line
-            .all
-            .binary_search_by_key(&ticket, |waiter| waiter.ticket);
-        let mut before = wake;
-        if let (Ok(index), true) = (index, before.is_some()) {
-            std::mem::swap(&mut line.all[index].wake, &mut before);
-        }
-        drop(line); // what woke it before is dropped after that
+        let index = line.index(ticket)?;
+        let before = wake.and_then(|wake| line.all[index].wake.replace(wake));
+        drop((line, before)); // what woke it before is dropped after the lock
         None
     }
 
     /// Leaves the queue. Returns the place that was handed to this ticket.
     pub(super) fn leave(&self, signs: &Signs, ticket: u64) -> Option<Place> {
-        let waiter = {
-            let mut line = self.lock();
-            let waiter = line.remove(ticket)?;
-            if waiter.place.is_none() {
-                self.count_off(signs);
-            }
-            waiter
-        };
+        let mut line = self.lock();
+        let waiter = line.remove(ticket)?;
+        if waiter.place.is_none() {
+            self.count_off(signs);
+        }
+        drop(line); // before what would wake it
         waiter.place
     }
 

@@ -47,12 +47,8 @@ impl<T, E> LazyPool<T, E> {
         Ok(())
     }
 
-    /// Makes items as [`fill`](LazyPool::fill) does, until the [least](crate::Builder::least) number is
-    /// made.
-    ///
-    /// # Errors
-    ///
-    /// As `fill`.
+    /// Makes items, or fails, as [`fill`](LazyPool::fill) does, until the
+    /// [least](crate::Builder::least) number is made.
     pub fn fill_least(&self) -> Result<(), PullError<E>> {
         self.fill(self.least)
     }

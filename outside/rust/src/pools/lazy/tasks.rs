@@ -29,17 +29,11 @@ impl<T, E> LazyPool<T, E> {
         self.item(held, None)
     }
 
-    /// Pulls an item as [`pull_async`](LazyPool::pull_async) does, with a guard that keeps the pool.
-    ///
-    /// # Errors
-    ///
-    /// As `pull_async`.
+    /// Pulls an item, or fails, as [`pull_async`](LazyPool::pull_async) does, with a guard that keeps
+    /// the pool.
     pub fn pull_owned_async(self: &Arc<Self>) -> impl Future<Output = OwnedPullResult<T, E>> {
         let pool = Arc::clone(self);
-        async move {
-            let pulled = pool.pull_async().await;
-            pulled.map(|guard| guard.owned(&pool))
-        }
+        async move { Ok(pool.pull_async().await?.owned(&pool)) }
     }
 
     /// Pulls an item as [`pull_async`](LazyPool::pull_async) does. If one is to be made, this
@@ -60,10 +54,10 @@ impl<T, E> LazyPool<T, E> {
     ///     Ok(*connection)
     /// }
     /// ```
-    pub async fn pull_async_with<F>(&self, init: F) -> PullResult<'_, T, E>
-    where
-        F: Future<Output = Result<T, E>>,
-    {
+    pub async fn pull_async_with(
+        &self,
+        init: impl Future<Output = Result<T, E>>,
+    ) -> PullResult<'_, T, E> {
         let mut held = Turn::new(self).await?;
         if !self.is_kept(&mut held) {
             self.put_made(&mut held, init.await)?;
@@ -71,23 +65,13 @@ impl<T, E> LazyPool<T, E> {
         Ok(self.given(held))
     }
 
-    /// Pulls an item as [`pull_async_with`](LazyPool::pull_async_with) does, with a guard that
-    /// keeps the pool.
-    ///
-    /// # Errors
-    ///
-    /// As `pull_async_with`.
-    pub fn pull_owned_async_with<F>(
+    /// Pulls an item, or fails, as [`pull_async_with`](LazyPool::pull_async_with) does, with a guard
+    /// that keeps the pool.
+    pub fn pull_owned_async_with(
         self: &Arc<Self>,
-        init: F,
-    ) -> impl Future<Output = OwnedPullResult<T, E>>
-    where
-        F: Future<Output = Result<T, E>>,
-    {
+        init: impl Future<Output = Result<T, E>>,
+    ) -> impl Future<Output = OwnedPullResult<T, E>> {
         let pool = Arc::clone(self);
-        async move {
-            let pulled = pool.pull_async_with(init).await;
-            pulled.map(|guard| guard.owned(&pool))
-        }
+        async move { Ok(pool.pull_async_with(init).await?.owned(&pool)) }
     }
 }
