@@ -11,11 +11,7 @@ use std::sync::{Mutex, PoisonError};
 pub struct Place(usize);
 
 impl Place {
-    /// Takes over the right to the place of this number.
-    ///
-    /// # Safety
-    ///
-    /// The place was pulled, and nobody else has it.
+    /// Takes over the right to a place. Safety: it was pulled, and nobody else has it.
     #[inline(always)]
     pub(crate) unsafe fn held(number: usize) -> Place {
         Place(number)
@@ -28,22 +24,11 @@ impl Place {
 }
 
 /// A handle of a pool of the library. An empty one stands for that which threads share.
-pub(crate) struct OwnHandle(Option<Handle>);
+pub(crate) type OwnHandle = Option<Handle>;
 
-impl OwnHandle {
-    pub(crate) fn empty() -> OwnHandle {
-        OwnHandle(None)
-    }
-
-    #[inline(always)]
-    pub(crate) fn is_open(&self) -> bool {
-        self.0.is_some()
-    }
-
-    /// Returns an address that only this call has while it goes on.
-    fn mark(&mut self) -> usize {
-        ptr::from_mut(self) as usize
-    }
+/// Returns an address that only the call with this handle has while it goes on.
+fn mark(own: &mut OwnHandle) -> usize {
+    ptr::from_mut(own) as usize
 }
 
 /// What `Library::returned` is if no place can be found, and if one may be. It may be where the mark
@@ -76,10 +61,8 @@ impl Library {
     /// Creates a pool of so many places, which are held. `None` if memory is refused.
     pub(crate) fn held(places: usize) -> Option<Library> {
         let mut library = Library::new(places)?;
-        let shared = library
-            .shared
-            .get_mut()
-            .unwrap_or_else(PoisonError::into_inner);
+        let shared = library.shared.get_mut();
+        let shared = shared.unwrap_or_else(PoisonError::into_inner);
         for place in 0..places {
             shared.pull(place / PAGE);
         }
@@ -95,7 +78,7 @@ impl Library {
     /// Opens a handle. It is empty if memory is refused.
     #[cold]
     pub(crate) fn open(&self) -> OwnHandle {
-        OwnHandle(self.with_shared(Handle::share))
+        self.with_shared(Handle::share)
     }
 
     #[inline(never)]
@@ -130,7 +113,7 @@ impl Library {
         if !self.may_have_some() {
             return None;
         }
-        let ours = own.mark();
+        let ours = mark(own);
         self.returned.store(ours, SeqCst);
         let place = self.look(own, page);
         if place.is_none() {
@@ -142,7 +125,7 @@ impl Library {
 
     #[inline(always)]
     fn look(&self, own: &mut OwnHandle, page: usize) -> Option<Place> {
-        let place = atomics::look(|| match &mut own.0 {
+        let place = atomics::look(|| match own {
             Some(own) => own.pull(page),
             None => self.with_shared(|shared| shared.pull(page)),
         });
@@ -150,11 +133,7 @@ impl Library {
     }
 
     /// Returns a place. If it wasn't known that one may be found, it makes this call before that is
-    /// said.
-    ///
-    /// # Safety
-    ///
-    /// The handle and the place are of this pool.
+    /// said. Safety: the handle and the place are of this pool.
     #[inline(always)]
     pub(crate) unsafe fn give_back(
         &self,
@@ -166,12 +145,12 @@ impl Library {
         #[allow(unused_unsafe)] // the call in Rust is safe
         // SAFETY: the place is out, of this pool, and so is the shared handle.
         let give_back = |handle: &mut Handle| unsafe { handle.give_back(place) };
-        match &mut own.0 {
+        match own {
             Some(own) => give_back(own),
             None => self.with_shared(give_back),
         }
         if self.returned.load(SeqCst) != SOME {
-            self.say_returned(own.mark(), before_it_is_said);
+            self.say_returned(mark(own), before_it_is_said);
         }
     }
 

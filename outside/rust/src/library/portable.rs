@@ -20,8 +20,14 @@ pub struct Handle(Arc<Places>);
 impl Handle {
     /// Creates a pool of so many free places, of which there is one at least. `None` if memory is
     /// refused.
-    pub fn new(places: usize) -> Option<Handle> {
-        Places::new(places).map(|places| Handle(Arc::new(places)))
+    pub fn new(count: usize) -> Option<Handle> {
+        let pages = count.checked_add(PAGE - 1)? / PAGE;
+        let mut words = Vec::new();
+        words.try_reserve_exact(pages).ok()?;
+        let places_of = |page: usize| (count - page * PAGE).min(PAGE);
+        words.extend((0..pages).map(|page| AtomicU64::new((1 << places_of(page)) - 1)));
+        let hint = AtomicUsize::new(0);
+        Some(Handle(Arc::new(Places { words, hint })))
     }
 
     /// Opens a further handle of its pool.
@@ -31,12 +37,20 @@ impl Handle {
 
     /// Pulls a place, at this page first. `None` if all were out at one moment.
     pub fn pull(&mut self, page: usize) -> Option<usize> {
-        self.0.pull(page)
+        let places = &self.0;
+        let start = page % places.words.len();
+        let place = places.take_lowest(start, places.look(start).0);
+        place.or_else(|| places.pull_further(start))
     }
 
-    /// Returns a place, which is out of this pool.
+    /// Returns a place, which is out of this pool. The pages are hinted at that had no free place.
     pub fn give_back(&mut self, place: usize) {
-        self.0.give(place);
+        let (page, bit) = (place / PAGE, 1_u64 << (place % PAGE));
+        let before = self.0.words[page].fetch_add(RETURN | bit, SeqCst);
+        assert_eq!(before & bit, 0, "place {place} is free, and was returned");
+        if before as u32 == 0 {
+            self.0.set_hint(page);
+        }
     }
 }
 
@@ -47,17 +61,6 @@ struct Places {
 }
 
 impl Places {
-    /// Creates so many free places, of which there is one at least. `None` if memory is refused.
-    fn new(count: usize) -> Option<Places> {
-        let pages = count.checked_add(PAGE - 1)? / PAGE;
-        let mut words = Vec::new();
-        words.try_reserve_exact(pages).ok()?;
-        let places_of = |page: usize| (count - page * PAGE).min(PAGE);
-        words.extend((0..pages).map(|page| AtomicU64::new((1 << places_of(page)) - 1)));
-        let hint = AtomicUsize::new(0);
-        Some(Places { words, hint })
-    }
-
     /// Reads which places of a page are free, and how many returns it counts.
     fn look(&self, page: usize) -> (u32, u32) {
         let word = self.words[page].load(SeqCst);
@@ -77,13 +80,7 @@ impl Places {
         None
     }
 
-    /// Takes a place, at this page first. `None` if all were in use at one moment.
-    fn pull(&self, start: usize) -> Option<usize> {
-        let start = start % self.words.len();
-        self.take_lowest(start, self.look(start).0)
-            .or_else(|| self.pull_further(start))
-    }
-
+    /// Takes a place, after none was seen at this page. `None` if all were in use at one moment.
     #[inline(never)]
     fn pull_further(&self, start: usize) -> Option<usize> {
         let mut before = match self.pull_beside(start) {
@@ -106,11 +103,8 @@ impl Places {
         }
     }
 
-    /// Takes a place of the other pages, at the hint first.
-    ///
-    /// # Errors
-    ///
-    /// How many returns these pages count together.
+    /// Takes a place of the other pages, at the hint first. If there is none, this returns how many
+    /// returns these pages count together.
     fn pull_beside(&self, start: usize) -> Result<usize, u32> {
         let hint = self.hint.load(SeqCst);
         let mut returns = 0_u32;
@@ -131,16 +125,6 @@ impl Places {
     fn set_hint(&self, page: usize) {
         if self.hint.load(SeqCst) != page {
             self.hint.store(page, SeqCst);
-        }
-    }
-
-    /// Returns a place. The pages are hinted at that had no free place.
-    fn give(&self, place: usize) {
-        let (page, bit) = (place / PAGE, 1_u64 << (place % PAGE));
-        let before = self.words[page].fetch_add(RETURN | bit, SeqCst);
-        assert_eq!(before & bit, 0, "place {place} is free, and was returned");
-        if before as u32 == 0 {
-            self.set_hint(page);
         }
     }
 }

@@ -90,7 +90,7 @@ impl Fixed {
                 place.inspect(|_| thread_slot.pulled.add_own(1))
             }
             None => {
-                let place = self.look(&mut OwnHandle::empty());
+                let place = self.look(&mut None);
                 place.inspect(|_| self.pulled.add(1))
             }
         })
@@ -123,7 +123,7 @@ impl Fixed {
             }
             None => {
                 self.pulled.add(-1);
-                give_back(&mut OwnHandle::empty());
+                give_back(&mut None);
             }
         });
     }
@@ -214,7 +214,7 @@ impl Way {
         let far = if pages % 17 == 0 { 1 } else { 17 };
         let begin = (number + 1) * far;
         Way {
-            handle: OwnHandle::empty(),
+            handle: None,
             page: begin % pages,
             begin,
             moves: 0,

@@ -1,7 +1,6 @@
 //! Which places of a pool that grows are held. A thread keeps some that it returned, by plain reads
 //! and writes. At its end it returns them.
 mod find;
-mod part;
 mod parts;
 mod thread_slot;
 
@@ -14,7 +13,7 @@ use crate::refuse;
 use crate::status;
 use crate::threads::slots::ThreadSlots;
 use crate::threads::{self, Number};
-use part::Part;
+use parts::Part;
 pub(crate) use parts::{PartName, Parts};
 use std::ptr::NonNull;
 use std::sync::{Arc, Mutex};
@@ -236,7 +235,7 @@ impl Growing {
             };
             match mine.and_then(Mine::way) {
                 Some(mut way) => by(way.handle(name, &self.part(name).library)),
-                None => by(&mut OwnHandle::empty()),
+                None => by(&mut None),
             }
         });
     }

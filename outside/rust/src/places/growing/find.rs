@@ -1,6 +1,6 @@
 //! How a pull finds a place that its thread doesn't keep, and where none is found, one without an
 //! item.
-use super::part::Part;
+use super::parts::Part;
 use super::thread_slot::{Mine, Way};
 use super::{Growing, PartName, PulledPlace};
 use crate::atomics::{Ordering::Relaxed, Ordering::SeqCst};

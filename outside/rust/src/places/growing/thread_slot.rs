@@ -109,7 +109,9 @@ impl<'s> Mine<'s> {
     /// Begins the work of a thread, whose end returns what it keeps here.
     pub(super) fn begin(self) {
         self.set_count(0);
-        [&self.own.pulls, &self.own.returns].map(|count| count.set(0));
+        for count in [&self.own.pulls, &self.own.returns] {
+            count.set(0);
+        }
     }
 
     /// Ends the work of a thread, which keeps nothing any more.
@@ -191,7 +193,7 @@ impl Way {
             left: TOGETHER,
             handles: Vec::new(),
             opens,
-            none: OwnHandle::empty(),
+            none: None,
         }
     }
 
@@ -211,7 +213,7 @@ impl Way {
     #[inline(always)]
     pub(super) fn own_handle(&mut self, name: PartName) -> Option<&mut OwnHandle> {
         let handle = self.handles.get_mut(name.number())?;
-        handle.is_open().then_some(handle)
+        handle.is_some().then_some(handle)
     }
 
     /// Returns the handle of a part, which is opened if it isn't. It is empty if memory is refused.
@@ -229,7 +231,7 @@ impl Way {
         let length = self.handles.len().max(number + 1);
         let missing = length - self.handles.len();
         if self.opens && self.handles.try_reserve(missing).is_ok() {
-            self.handles.resize_with(length, OwnHandle::empty);
+            self.handles.resize_with(length, || None);
             self.handles[number] = library.open();
         }
     }
