@@ -233,6 +233,7 @@ fn a_place_whose_init_panicked_waits_for_a_pull_that_makes_an_item() {
     let pull = || catch_unwind(AssertUnwindSafe(|| pool.pull())).ok();
     let items: Vec<_> = (0..40).filter_map(|_| pull()).collect();
     assert_eq!((items.len(), calls.load(SeqCst)), (36, 40));
+    assert_eq!((pool.status().made, pool.status().in_use), (36, 36));
     in_a_thread(move || drop(items));
     let _items: Vec<_> = (0..36).map(|_| pull()).collect();
     assert_eq!(calls.load(SeqCst), 40, "one was made beside free ones");
@@ -301,6 +302,22 @@ fn a_thread_that_only_returns_returns_eight_at_a_time() {
         all(1_040..1_048).into_iter().collect::<HashSet<_>>(),
         (1..=KEPT).collect()
     );
+}
+
+/// It counts anew once it has pulled what it didn't keep.
+#[test]
+fn a_thread_that_pulls_between_its_returns_keeps_eight() {
+    let kept_of = |count: usize| {
+        let (pool, _one, calls) = counting_pool();
+        let act = |pool, mut items: Vec<_>| {
+            items.truncate(count);
+            drop(pull_many(pool, 20));
+            items.clear();
+            items
+        };
+        kept(900 + count, act, (&pool, &calls))
+    };
+    assert_eq!([900, 901, 902, 903].map(kept_of), [KEPT; 4]);
 }
 
 /// Pulls so many items one after the other.

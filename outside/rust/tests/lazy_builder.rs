@@ -3,10 +3,13 @@
 use kundratu_pool::{Event, LazyPool, LazyReusable, Manager, NewError, OrElse, PullError};
 use std::error::Error;
 use std::fmt::{self, Display, Formatter};
+use std::future::Future;
 use std::num::ParseIntError;
 use std::panic::{catch_unwind, AssertUnwindSafe};
+use std::pin::pin;
 use std::sync::atomic::{AtomicUsize, Ordering::SeqCst};
 use std::sync::{Arc, Mutex};
+use std::task::{Context, Waker};
 use std::time::{Duration, Instant};
 use std::{iter, thread};
 
@@ -148,10 +151,17 @@ fn an_item_that_is_too_old_is_dropped_when_it_is_pulled_or_comes_back() {
     thread::sleep(SOON);
     drop(item);
     assert_eq!(counts(&pool), (0, 0));
+    let begun = Instant::now();
     assert_eq!(pool.fill(1), Ok(()));
     assert_eq!(counts(&pool), (1, 0));
+    let is_young = turn(&pool) == 1 && counts(&pool) == (1, 0);
+    assert!(
+        is_young || begun.elapsed() >= SOON,
+        "it is as old as one before"
+    );
     thread::sleep(SOON);
-    assert_eq!((turn(&pool), counts(&pool).1), (2, 0));
+    assert_eq!(counts(&pool).1, 0);
+    assert!(turn(&pool) >= 2);
 
     let pool = build(HOUR).expect("there is memory");
     assert!((0..100).all(|_| turn(&pool) == 0));
@@ -216,6 +226,7 @@ fn clear_idle_drops_what_was_free_for_so_long_and_leaves_the_least() {
     let pool = pool.expect("there is memory");
     assert_eq!((pool.fill_least(), counts(&pool)), (Ok(()), (5, 0)));
     assert_eq!(pool.fill(20), Ok(()));
+    thread::sleep(SOON);
     assert_eq!(pool.clear_idle(SOON), 0); // from now on it is noted
     thread::sleep(SOON * 2);
     let item = pool.pull().expect("one is free");
@@ -281,6 +292,24 @@ fn each_event_is_told() {
     assert_eq!(take(), [Event::Pulled]);
     pool.clear();
     assert_eq!((pool.fill(1), take()), (Ok(()), vec![Event::Made]));
+}
+
+/// It is told once, however often the task is polled.
+#[test]
+fn a_task_tells_that_it_waits() {
+    let waits = Arc::new(AtomicUsize::new(0));
+    let count = Arc::clone(&waits);
+    let pool = LazyPool::builder(1).init(counter()).on_event(move |event| {
+        count.fetch_add(usize::from(event == Event::Waits), SeqCst);
+    });
+    let pool = pool.build().expect("there is memory");
+    let item = pool.pull().expect("it is made");
+    let (mut task, mut context) = (pin!(pool.pull_async()), Context::from_waker(Waker::noop()));
+    assert!((0..3).all(|_| task.as_mut().poll(&mut context).is_pending()));
+    assert_eq!(waits.load(SeqCst), 1);
+    drop(item);
+    assert!(task.poll(&mut context).is_ready());
+    assert_eq!(waits.load(SeqCst), 1);
 }
 
 /// What is called at an event is called under no lock, and may panic.

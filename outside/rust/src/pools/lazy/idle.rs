@@ -61,7 +61,6 @@ impl Times {
         if self.life.is_some() {
             entry.made = self.now();
         }
-        entry.came = 0;
         self.came(entry);
     }
 
@@ -79,7 +78,7 @@ impl Times {
 
     /// Returns whether an item that was free is past its time of life, or was free for too long.
     pub(super) fn is_over<T>(&self, entry: &Entry<T>) -> bool {
-        let is_idle = |idle| entry.came != 0 && since(entry.came, self.now()) >= idle;
+        let is_idle = |idle| since(entry.came, self.now()) >= idle;
         self.is_past(entry) || self.idle.is_some_and(is_idle)
     }
 
