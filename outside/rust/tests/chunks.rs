@@ -230,15 +230,31 @@ fn a_place_whose_init_panicked_waits_for_a_pull_that_makes_an_item() {
     let count = Arc::clone(&calls);
     let init = move || assert_ne!(count.fetch_add(1, SeqCst) % 10, 3, "on purpose");
     let pool = LinearObjectPool::new(init, |()| {});
-    let pull = || catch_unwind(AssertUnwindSafe(|| pool.pull())).ok();
+    let pull = || try_pull(&pool);
     let items: Vec<_> = (0..40).filter_map(|_| pull()).collect();
     assert_eq!((items.len(), calls.load(SeqCst)), (36, 40));
-    assert_eq!((pool.status().made, pool.status().in_use), (36, 36));
     in_a_thread(move || drop(items));
     let _items: Vec<_> = (0..36).map(|_| pull()).collect();
     assert_eq!(calls.load(SeqCst), 40, "one was made beside free ones");
     assert!(pull().is_some());
     assert_eq!(calls.load(SeqCst), 41);
+}
+
+/// Two threads leave a place each, and no item.
+#[test]
+fn items_whose_init_panics_at_once_are_not_made() {
+    let both = Arc::new(Barrier::new(2));
+    let init = move || {
+        both.wait();
+        panic!("on purpose");
+    };
+    let pool = LinearObjectPool::<()>::new(init, |()| {});
+    thread::scope(|scope| (0..2).for_each(|_| drop(scope.spawn(|| try_pull(&pool)))));
+    assert_eq!((pool.status().made, pool.status().in_use), (0, 0));
+}
+
+fn try_pull<T>(pool: &LinearObjectPool<T>) -> Option<LinearReusable<'_, T>> {
+    catch_unwind(AssertUnwindSafe(|| pool.pull())).ok()
 }
 
 /// How many items are free for this thread: so many that a pull makes one.
@@ -304,20 +320,35 @@ fn a_thread_that_only_returns_returns_eight_at_a_time() {
     );
 }
 
-/// It counts anew once it has pulled what it didn't keep.
+/// It counts anew once it has pulled one that it didn't keep.
 #[test]
 fn a_thread_that_pulls_between_its_returns_keeps_eight() {
     let kept_of = |count: usize| {
         let (pool, _one, calls) = counting_pool();
         let act = |pool, mut items: Vec<_>| {
             items.truncate(count);
-            drop(pull_many(pool, 20));
+            drop(pull_many(pool, KEPT + 1));
             items.clear();
             items
         };
         kept(900 + count, act, (&pool, &calls))
     };
     assert_eq!([900, 901, 902, 903].map(kept_of), [KEPT; 4]);
+}
+
+/// Of 512 items of one part, which another thread returned, it pulls eight at a page of 32.
+#[test]
+fn a_thread_goes_on_to_other_pages_of_what_others_returned() {
+    let pool = LinearObjectPool::<u64>::new(|| 0, |_| {});
+    let mut items: Vec<_> = (0..1_016).map(|_| pool.pull()).collect();
+    let address = |item: &LinearReusable<'_, u64>| std::ptr::from_ref(&**item) as usize;
+    let [first, next] = [504, 505].map(|at| address(&items[at]));
+    let part = items.split_off(504);
+    in_a_thread(|| drop(part));
+    let again: Vec<_> = (0..64).map(|_| pool.pull()).collect();
+    let page = |item| (address(item) - first) / (next - first) / 32;
+    let pages: HashSet<_> = again.iter().map(page).collect();
+    assert!((7..=10).contains(&pages.len()), "{pages:?}");
 }
 
 /// Pulls so many items one after the other.

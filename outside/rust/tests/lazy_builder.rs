@@ -137,6 +137,9 @@ fn an_item_that_was_free_for_too_long_is_dropped_when_it_is_pulled() {
     thread::sleep(SOON);
     assert!(pool.try_pull().is_none());
     assert_eq!(counts(&pool), (0, 0));
+    let begun = Instant::now();
+    assert_eq!(pool.fill(1), Ok(())); // it is new, though the pool and the place aren't
+    assert!(pool.try_pull().is_some() || begun.elapsed() >= SOON);
 
     let pool = build(HOUR).expect("there is memory");
     assert!((0..100).all(|_| turn(&pool) == 0));
@@ -290,6 +293,8 @@ fn each_event_is_told() {
     drop((one, two));
     assert!(pool.try_pull().is_some());
     assert_eq!(take(), [Event::Pulled]);
+    assert!(pool.pull().is_ok() && pool.pull_wait().is_ok());
+    assert_eq!(take(), [Event::Pulled; 2]);
     pool.clear();
     assert_eq!((pool.fill(1), take()), (Ok(()), vec![Event::Made]));
 }

@@ -1,7 +1,10 @@
 //! Threads that wait for items of a fair lazy pool get them in the order in which they came.
 use kundratu_pool::{LazyPool, PullError};
+use std::future::Future;
+use std::pin::pin;
 use std::sync::atomic::{AtomicBool, AtomicUsize, Ordering::SeqCst};
 use std::sync::{Barrier, Mutex};
+use std::task::{Context, Waker};
 use std::thread;
 use std::time::{Duration, Instant};
 
@@ -181,4 +184,18 @@ fn eight_threads_on_two_items_get_them_in_rounds() {
         (0..THREADS).for_each(|thread| drop(scope.spawn(move || run(thread))));
     });
     is_free(&pool);
+}
+
+/// So it is while a task still waits that wasn't polled since.
+#[test]
+fn a_pull_of_a_closed_pool_says_that_it_is_closed() {
+    let pool = fair(1);
+    let _item = pool.pull().expect("it is free");
+    let mut task = pin!(pool.pull_async());
+    let mut context = Context::from_waker(Waker::noop());
+    assert!(task.as_mut().poll(&mut context).is_pending());
+    assert_eq!(pool.pull().err(), Some(PullError::AllInUse));
+    pool.close();
+    assert_eq!(pool.status().waiting, 1);
+    assert_eq!(pool.pull().err(), Some(PullError::Closed));
 }

@@ -187,7 +187,11 @@ const THREADS_WITH_PAGES: usize = 16;
 fn threads_keep_to_pages_of_their_own() {
     let _alone = NUMBERS.lock().unwrap_or_else(PoisonError::into_inner);
     let pages = pages_of_threads(&zeros(131_072));
-    assert_eq!(pages.map(|pages| pages.len()), [THREADS_WITH_PAGES; 3]);
+    assert_eq!(pages.each_ref().map(HashSet::len), [THREADS_WITH_PAGES; 3]);
+    let mut first: Vec<_> = pages[0].iter().collect();
+    first.sort_unstable();
+    let share = |two: &[&usize]| two[1] - two[0] < 16; // a page has a word of 8 bytes
+    assert!(!first.windows(2).any(share), "cache lines of {first:?}");
 }
 
 /// If the first half of the items is out, all come to the hinted page, the last of the other half.

@@ -48,6 +48,31 @@ fn an_item_that_moves_is_found() {
     }
 }
 
+/// No item is free. At some step of a pull one is returned. If the pull misses that, the next one
+/// doesn't.
+#[test]
+fn an_item_that_a_look_missed_is_found_by_the_next() {
+    let _alone = TESTED.lock().unwrap_or_else(PoisonError::into_inner);
+    for (at, before) in (0..40)
+        .step_by(5)
+        .flat_map(|at| (0..40).map(move |before| (at, before)))
+    {
+        let (pool, count) = counted();
+        let mut items: Vec<_> = (0..40).map(|_| Some(pool.pull_owned())).collect();
+        let moved = items[at].take();
+        let returns = one_move(before, move || in_a_thread(move || drop(moved)));
+        MOVES.set(VecDeque::from([returns]));
+        let first = pool.pull();
+        let is_over = MOVES.take().is_empty();
+        let both = (first, pool.pull());
+        assert!(
+            !is_over || count.load(SeqCst) == 41,
+            "{at} at step {before}"
+        );
+        drop(both);
+    }
+}
+
 /// A pull of a thread is held up at two steps. At the first one all items are returned, and at the
 /// other one a third thread pulls most of them. It makes none, wherever the first one stands.
 #[test]

@@ -1,5 +1,6 @@
 //! Numbers of threads.
-use super::TESTED;
+use super::steps::MOVES;
+use super::{counted, in_a_thread, one_move, TESTED};
 use crate::threads::{pull_number, return_number, with, CALLS, FIRST, NUMBERS};
 use std::cell::RefCell;
 use std::collections::HashSet;
@@ -7,7 +8,7 @@ use std::ffi::c_void;
 use std::ptr::NonNull;
 use std::sync::atomic::{AtomicUsize, Ordering::SeqCst};
 use std::sync::mpsc::{channel, Sender};
-use std::sync::{Barrier, PoisonError};
+use std::sync::{Arc, Barrier, PoisonError};
 use std::{iter, thread};
 
 /// Returns the number of this thread, if it has one.
@@ -90,6 +91,28 @@ fn a_thread_has_no_number_once_it_was_given_back() {
     };
     thread::spawn(run).join().expect("it ends");
     assert!(receiver.iter().any(|number| number.is_none()));
+}
+
+/// At no step at which a thread returns what it keeps, another one has its number.
+#[test]
+fn a_number_is_given_back_after_what_its_thread_keeps() {
+    let _alone = TESTED.lock().unwrap_or_else(PoisonError::into_inner);
+    for before in 0..8 {
+        let (pool, _) = counted();
+        let (met, meets) = channel();
+        let other = Arc::clone(&pool);
+        in_a_thread(move || {
+            MOVES.take(); // so that this ends after the thread's number
+            drop(other.pull());
+            let number = own();
+            let meet = move || in_a_thread(move || met.send(own() == number).expect("one reads"));
+            MOVES.set([one_move(before, meet)].into());
+        });
+        let is_met = meets.iter().next();
+        let is_told = is_met.is_some() || !cfg!(target_os = "linux"); // elsewhere `MOVES` may end first
+        assert!(before > 0 || is_told, "it returned nothing");
+        assert_ne!(is_met, Some(true), "at step {before}");
+    }
 }
 
 /// A thread that came when all numbers were out asks again at each 64th call.

@@ -148,10 +148,10 @@ impl<T> LinearObjectPool<T> {
         loop {
             match self.places.pull_far() {
                 Ok(pulled) => return pulled,
-                Err(name) => {
-                    let made = name.and_then(|name| self.make(name));
-                    made.unwrap_or_else(Self::refused);
-                }
+                Err(name) => match name.and_then(|name| self.make(name)) {
+                    Some(()) => {}
+                    None => handle_alloc_error(Layout::new::<T>()),
+                },
             }
         }
     }
@@ -179,10 +179,6 @@ impl<T> LinearObjectPool<T> {
         let items = || unsafe { Slots::zeroed(places) };
         self.parts.make(name, items)?;
         self.places.make(name, places)
-    }
-
-    fn refused<A>() -> A {
-        handle_alloc_error(Layout::new::<T>())
     }
 }
 
