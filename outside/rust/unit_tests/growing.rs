@@ -48,8 +48,8 @@ fn an_item_that_moves_is_found() {
     }
 }
 
-/// No item is free. At some step of a pull one is returned. If the pull misses that, the next one
-/// doesn't.
+/// No item is free, but one was, so that a pull looks for it. At some step of the look another one
+/// is returned. If the pull misses that, the next one doesn't.
 #[test]
 fn an_item_that_a_look_missed_is_found_by_the_next() {
     let _alone = TESTED.lock().unwrap_or_else(PoisonError::into_inner);
@@ -59,7 +59,10 @@ fn an_item_that_a_look_missed_is_found_by_the_next() {
     {
         let (pool, count) = counted();
         let mut items: Vec<_> = (0..40).map(|_| Some(pool.pull_owned())).collect();
-        let moved = items[at].take();
+        let (gone, moved) = (items[1].take(), items[at].take());
+        in_a_thread(move || drop(gone));
+        let other = Arc::clone(&pool);
+        in_a_thread(move || mem::forget(other.pull_owned()));
         let returns = one_move(before, move || in_a_thread(move || drop(moved)));
         MOVES.set(VecDeque::from([returns]));
         let first = pool.pull();
