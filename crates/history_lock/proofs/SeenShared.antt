@@ -11,7 +11,7 @@ use Rattle.history_lock.specs.contracts.seen.Seen as Seen
 use Rattle.history_lock.specs.contracts.seen.Seen.TheInside as Inside
 
 -- what a badge owns names no thread
-badge_sync : (V : RattleType) → IsSync (badge.the_row V)
+pub badge_sync : (V : RattleType) → IsSync (badge.the_row V)
 badge_sync V = record { shared = λ view b o κ q. part_keyless (badge.the_row V) (the_send V) q view b o }
 
 pub seen_sync : (E : RattleType) → IsSync (Seen.the_row E)

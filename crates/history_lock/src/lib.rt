@@ -13,4 +13,5 @@ pub mod seen;
 pub use law::{Law, Section};
 pub use lock::{HistoryLock, Turn};
 pub use maybe_seen::MaybeSeen;
+pub use rule::Visitor;
 pub use seen::Seen;

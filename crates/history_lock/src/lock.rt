@@ -158,7 +158,9 @@ impl<T: Drop, E, L: Law<T, E>> HistoryLock<T, E, L> {
         let shared = &self.table.shared;
         let found = shared.swap::<Take<L>>(&mut seat, WORD, TAKEN);
         if found != FREE {
-            return Err(Seen::of_seat(seat));
+            return Err(Seen {
+                badge: seat.into_badge(),
+            });
         }
         match shared.exchange(&mut seat, PLACE, None) {
             Some(value) => Ok((value, Turn { lock: self, seat })),
@@ -174,7 +176,9 @@ impl<T, E, L: Law<T, E>> HistoryLock<T, E, L> {
         ensures left { (value : T) × L.leaves result.history value }
     {
         let (_, seat) = self.table.shared.load_new_seat::<Look<L>>(WORD);
-        Seen::of_seat(seat)
+        Seen {
+            badge: seat.into_badge(),
+        }
     }
 
     /// Adds to what somebody knows of the lock what somebody else knows: of the two histories one
@@ -192,7 +196,9 @@ impl<T, E, L: Law<T, E>> HistoryLock<T, E, L> {
         let shared = &self.table.shared;
         shared.join_seat::<Tells>(&mut seat, told.into_seat());
         shared.load::<Look<L>>(&mut seat, WORD);
-        Seen::of_seat(seat)
+        Seen {
+            badge: seat.into_badge(),
+        }
     }
 }
 
@@ -226,6 +232,8 @@ impl<'s, T, E, L: Law<T, E>> Turn<'s, T, E, L> {
             Some(_) => unreachable!(),
         }
         shared.store::<Free<S>>(&mut seat, WORD, FREE);
-        Seen::of_seat(seat)
+        Seen {
+            badge: seat.into_badge(),
+        }
     }
 }

@@ -1,5 +1,5 @@
 //! What somebody knows of a lock who doesn't hold it.
-ghost use Rattle.std.specs.Prelude.{◌≡◌, [], ◌∷◌, false};
+ghost use Rattle.std.specs.Prelude.{◌≡◌, [], false};
 ghost use Rattle.history_lock.specs.LockRule.{IsPassing, history_of};
 
 use crate::rule::Visitor;
@@ -10,7 +10,7 @@ use std::marker::Model;
 ///
 /// In a clause it is which lock it is of, and these operations, of which the last stands first.
 pub struct Seen<E> {
-    badge: Badge<Visitor<E>>,
+    pub(crate) badge: Badge<Visitor<E>>,
 }
 
 impl<E> Model for Seen<E> {
@@ -26,16 +26,6 @@ impl<E> Model for Seen<E> {
 }
 
 impl<E> Seen<E> {
-    /// Returns what a visitor knows that holds nothing.
-    pub(crate) fn of_seat<T>(seat: Seat<Option<T>, Visitor<E>>) -> Seen<E>
-        requires { (seat.me.0.holds ≡ false) × (seat.me.1 ≡ []) }
-        ensures { result ≡ record { table = seat.table_id; history = seat.me.0.history } }
-    {
-        Seen {
-            badge: seat.into_badge(),
-        }
-    }
-
     /// Returns the visitor that knows this.
     pub(crate) fn into_seat<T>(self) -> Seat<Option<T>, Visitor<E>>
         ensures table { result.table_id ≡ self.table }
@@ -45,16 +35,16 @@ impl<E> Seen<E> {
         self.into_badge().into_seat()
     }
 
-    /// Returns the badge of one visitor.
-    pub(crate) fn of_badge(badge: Badge<Visitor<E>>) -> Seen<E>
+    /// Returns what a visitor knows that holds nothing, by its badge.
+    pub fn of_badge(badge: Badge<Visitor<E>>) -> Seen<E>
         requires { IsPassing badge.views }
         ensures { result ≡ record { table = badge.table_id; history = history_of badge.views } }
     {
         Seen { badge }
     }
 
-    /// Returns the badge of the visitor that knows this.
-    pub(crate) fn into_badge(self) -> Badge<Visitor<E>>
+    /// Returns the badge of the visitor that knows this, for a type that has facts of its own on it.
+    pub fn into_badge(self) -> Badge<Visitor<E>>
         ensures table { result.table_id ≡ self.table }
         ensures history { history_of result.views ≡ self.history }
         ensures passing { IsPassing result.views }

@@ -3,7 +3,8 @@ use denote.RattleType.{RattleType}
 use denote.Param.Send.{IsSync, view_sync}
 use denote.Param.SendFields.{as_row_sync, declared_sync}
 use denote.Struct.Field.{row_field}
-use Rattle.history_lock.proofs.SeenShared.{maybe_seen_sync}
+use Rattle.history_lock.proofs.SeenShared.{badge_sync}
+use Rattle.history_lock.specs.contracts.rule.Visitor as Visitor
 use Rattle.kept_values.proofs.RoomShared.{room_sync}
 use Rattle.stack_pools.specs.contracts.operation.Operation as Operation
 use Rattle.stack_pools.specs.contracts.stack_note.StackNote as StackNote
@@ -15,7 +16,7 @@ use Rattle.stack_pools.specs.contracts.stack_reusable.StackReusable.TheInside as
 pub note_sync : (T : RattleType) → IsSync (StackNote.the_row T)
 note_sync T =
     view_sync (NoteInside.the_row T) _ _ _ _
-    (declared_sync (NoteInside.the_type T) (maybe_seen_sync (Operation.the_row T), tt))
+    (declared_sync (NoteInside.the_type T) (badge_sync (Visitor.the_row (Operation.the_row T)), tt))
 
 pub reusable_sync : (T P W : RattleType) (pool : Ghosts P.Denot T.Denot) → IsSync T → IsSync P → IsSync W
     → IsSync (StackReusable.the_row T P W pool)

@@ -3,6 +3,7 @@ ghost use Rattle.std.specs.Prelude.{◌≡◌, None, IfSome, length, min};
 ghost use Rattle.stack_pools.specs.StackHistory.{IsNoteOf, GoesOn, IsTake, KeptLast, WasCleared, kept_by};
 
 use crate::stack_note::StackNote;
+use atomic_table::Badge;
 use kept_values::stack::{Room, Stack};
 use pool_parts::clean::Clean;
 use std::mem;
@@ -74,12 +75,17 @@ impl<T: Drop, K: Clean<T>> FreeList<T, K> for Mutex<Stack<T, K>> {
     ghost lock = { λ _. None };
 
     fn note(&self) -> StackNote<T> {
-        StackNote::nothing()
+        StackNote {
+            badge: Badge::blank(),
+        }
     }
 
     #[inline(always)]
     fn take<W: Wait>(&self, rt: &W) -> (Option<(T, Room<T>)>, StackNote<T>) {
-        (self.lock(rt).take(), StackNote::nothing())
+        let nothing = StackNote {
+            badge: Badge::blank(),
+        };
+        (self.lock(rt).take(), nothing)
     }
 
     fn take_after<W: Wait>(
@@ -108,12 +114,12 @@ impl<T: Drop, K: Clean<T>> FreeList<T, K> for Mutex<Stack<T, K>> {
     }
 
     fn count<W: Wait>(&self, rt: &W) -> (usize, StackNote<T>) {
-        (self.lock(rt).kept(), StackNote::nothing())
+        (self.lock(rt).kept(), self.note())
     }
 
     fn clear<W: Wait>(&self, rt: &W) -> StackNote<T> {
         let kept = mem::replace(&mut *self.lock(rt), Stack::new());
         drop(kept);
-        StackNote::nothing()
+        self.note()
     }
 }

@@ -85,7 +85,7 @@ impl<T: Drop, K: Clean<T>> FreeList<T, K> for KeptStack<T, K> {
 
     #[inline(always)]
     fn take<W: Wait>(&self, rt: &W) -> (Option<(T, Room<T>)>, StackNote<T>) {
-        let (stack, turn) = self.lock(rt);
+        let (stack, turn) = self.lock.lock(rt);
         taken(stack, turn)
     }
 
@@ -117,13 +117,13 @@ impl<T: Drop, K: Clean<T>> FreeList<T, K> for KeptStack<T, K> {
     }
 
     fn count<W: Wait>(&self, rt: &W) -> (usize, StackNote<T>) {
-        let (stack, turn) = self.lock(rt);
+        let (stack, turn) = self.lock.lock(rt);
         let count = stack.kept();
         (count, StackNote::of(turn.release::<Counts>(stack)))
     }
 
     fn clear<W: Wait>(&self, rt: &W) -> StackNote<T> {
-        let (stack, turn) = self.lock(rt);
+        let (stack, turn) = self.lock.lock(rt);
         let seen = turn.release::<Clears>(Stack::new());
         drop(stack);
         StackNote::of(seen)

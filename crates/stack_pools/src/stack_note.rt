@@ -1,11 +1,12 @@
 //! What is known of a stack pool's history.
-ghost use Rattle.std.specs.Prelude.{◌≡◌, Some, None, IfSome};
+ghost use Rattle.std.specs.Prelude.{◌≡◌, Some};
 ghost use Rattle.history_lock.specs.History.{Known};
 ghost use Rattle.stack_pools.specs.StackHistory.{IsLegal};
 ghost use Rattle.stack_pools.specs.declared.operation.Operation.{Operation};
 
 use crate::operation::Operation;
-use history_lock::{MaybeSeen, Seen};
+use atomic_table::Badge;
+use history_lock::{Seen, Visitor};
 use std::marker::Model;
 
 /// What is known of a stack pool's history up to some moment. It has no bytes. Of a mutex pool it
@@ -20,39 +21,34 @@ use std::marker::Model;
 /// let item = pool.pull_after(&rt, note)?; // comes after all that the note knew
 /// ```
 pub struct StackNote<T> {
-    seen: MaybeSeen<Operation<T>>,
+    // Blank if the note knows nothing.
+    pub(crate) badge: Badge<Visitor<Operation<T>>>,
 }
 
 impl<T> Model for StackNote<T> {
     ghost use Rattle.std.specs.Prelude.{Option, IfSome};
     ghost use Rattle.history_lock.specs.History.{Known};
+    ghost use Rattle.history_lock.specs.LockRule.{IsPassingAtMost, known_by};
     ghost use Rattle.stack_pools.specs.StackHistory.{IsLegal};
     ghost use Rattle.stack_pools.specs.declared.operation.Operation.{Operation};
 
     ghost Value = { Option (Known (Operation T)) };
 
-    ghost view = { λ note. note.seen };
+    ghost view = { λ note. known_by note.badge.table_id note.badge.views };
 
-    ghost invariant = { λ note. IfSome note.seen (λ known. IsLegal known.history) };
+    ghost invariant = { λ note.
+        IsPassingAtMost note.badge.views
+        × IfSome (known_by note.badge.table_id note.badge.views) (λ known. IsLegal known.history) };
 }
 
 impl<T> StackNote<T> {
-    /// Returns a note that knows nothing.
-    pub(crate) fn nothing() -> StackNote<T>
-        ensures { result ≡ None }
-    {
-        StackNote {
-            seen: MaybeSeen::nothing(),
-        }
-    }
-
     /// Returns a note of what was seen.
     pub(crate) fn of(seen: Seen<Operation<T>>) -> StackNote<T>
         requires { IsLegal seen.history }
         ensures { result ≡ Some seen }
     {
         StackNote {
-            seen: MaybeSeen::of(seen),
+            badge: seen.into_badge(),
         }
     }
 
@@ -61,13 +57,13 @@ impl<T> StackNote<T> {
         requires { (known : Known (Operation T)) × (self ≡ Some known) }
         ensures { self ≡ Some result }
     {
-        let StackNote { seen } = self;
-        seen.into_seen()
+        let StackNote { badge } = self;
+        Seen::of_badge(badge)
     }
 }
 
 impl<T> Drop for StackNote<T> {
     fn drop(self) {
-        let StackNote { seen: _ } = self;
+        let StackNote { badge: _ } = self;
     }
 }

@@ -22,26 +22,11 @@ store-requires g c =
     c.exchange.new.seat.me value c.lock.invariant.0 held carries left in
     (c.exchange.ensures.0 ∙ c.self.invariant.0 ∙ sym c.lock.view_is, done.0, done.1)
 
-pub of_seat-requires : goal.of_seat-requires
-of_seat-requires g c =
+pub into_badge-requires : goal.into_badge-requires
+into_badge-requires g c =
     let T = g.row.T.Denot in
     let E = g.row.E.Denot in
     let carries = ap (λ (me : Guest T E). me.1) c.exchange.ensures.3
     ∙ ap (λ l. (0, Some c.args.value) ∷ rest l) c.self.invariant.2 in
     let after = c.store.ensures.2 c.args.value carries in
-    (ap (λ (me : Guest T E). me.0.holds) after, ap (λ (me : Guest T E). me.1) after)
-
-pub returns : goal.returns
-returns g c =
-    let T = g.row.T.Denot in
-    let E = g.row.E.Denot in
-    let adds = g.S.Section.adds in
-    let value = c.args.value in
-    let is = c.exchange.ensures.3 in
-    let carries = ap (λ (me : Guest T E). me.1) is ∙ ap (λ l. (0, Some value) ∷ rest l) c.self.invariant.2 in
-    let after = c.store.ensures.2 value carries in
-    let table = c.store.ensures.0 ∙ c.exchange.ensures.0 ∙ ap (λ (k : Known E). k.table) c.self.view_is in
-    let history = ap (λ (me : Guest T E). me.0.history) after
-    ∙ ap (λ (me : Guest T E). adds me.0.history value ∷ me.0.history) is
-    ∙ ap (λ (k : Known E). adds k.history value ∷ k.history) c.self.view_is in
-    c.of_seat.ensures ∙ (λ k. record { table = table k; history = history k })
+    ap (λ (me : Guest T E). me.1) after
