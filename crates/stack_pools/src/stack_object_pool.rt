@@ -4,11 +4,11 @@
 //! wait for the lock.
 ghost use Rattle.std.specs.Prelude.{◌≡◌, None, Some, IfOk, IfErr, IfSome, ⊤};
 ghost use Rattle.std.specs.Arc.{arc_value};
-ghost use Rattle.stack_pools.specs.StackHistory.{IsNoteOf, GoesOn, IsTake, IsGivenBack};
+ghost use Rattle.stack_pools.specs.StackHistory.{IsNoteOf, GoesOn, IsTake};
 
 use crate::free_list::FreeList;
 use crate::stack_note::StackNote;
-use crate::stack_reusable::{PulledValue, StackReusable};
+use crate::stack_reusable::{ReturnPermission, SharedStackPool, StackReusable};
 use kept_values::stack::Room;
 use pool_parts::PullError;
 use pool_parts::clean::Clean;
@@ -39,7 +39,7 @@ pub struct StackObjectPool<
 > {
     alloc: Global,
     init: I,
-    reset: R,
+    pub(crate) reset: R,
     pub(crate) kept: F,
     marker: PhantomData<(Mutex<T>, Mutex<K>)>,
 }
@@ -99,8 +99,7 @@ impl<
         ensures refused { IfErr result (Refuses ⊤ (I.answers (stack_init self.now) None) ⊥) }
     {
         let (kept, note) = self.kept.take(rt);
-        let pulled = self.kept_or_made(kept, note)?;
-        Ok(StackReusable::pulled(self, *rt, pulled))
+        self.reusable(self, *rt, kept, note)
     }
 
     /// Pulls a value after all that a note knows: the one that was kept last, or a new one if none
@@ -129,8 +128,7 @@ impl<
         ensures refused { IfErr result (Refuses ⊤ (I.answers (stack_init self.now) None) ⊥) }
     {
         let (kept, note) = self.kept.take_after(rt, note);
-        let pulled = self.kept_or_made(kept, note)?;
-        Ok(StackReusable::pulled(self, *rt, pulled))
+        self.reusable(self, *rt, kept, note)
     }
 
     /// Pulls the value that was kept last, or makes one if none is kept. The reusable owns the pool
@@ -153,31 +151,45 @@ impl<
     {
         let owner = Arc::try_clone(self)?;
         let (kept, note) = self.kept.take(rt);
-        let pulled = self.kept_or_made(kept, note)?;
-        Ok(StackReusable::pulled(owner, *rt, pulled))
+        self.reusable(owner, *rt, kept, note)
     }
 
-    /// Returns a kept value with its room, or a new one of each where the pull found none.
+    /// Makes the reusable of a kept value and its room, or of new ones if the pull found none.
     #[inline(always)]
-    fn kept_or_made(
+    fn reusable<P: SharedStackPool<T>, W: ReturnPermission<T, P>>(
         &self,
+        pool: P,
+        rt: W,
         kept: Option<(T, Room<T>)>,
         note: StackNote<T>,
-    ) -> Result<PulledValue<T>, PullError>
-        requires of { IsNoteOf (F.lock (stack_list self.now)) note }
+    ) -> Result<StackReusable<T, P, W>, PullError>
+        requires of { IsNoteOf (P.lock pool) note }
         requires meets { IfSome kept (λ taken. K.meets taken.0) }
         requires made_or_reset { IfSome kept (λ taken. IsMadeOrReset I.answers R.leaves taken.0) }
         requires taken { IsTake kept note }
-        ensures note { IfOk result (λ pulled. pulled.note ≡ note) }
-        ensures pulled { IfOk result (λ pulled.
-            Pulls K.meets I.answers R.leaves (stack_init self.now) pulled.value note) }
+        ensures pool { IfOk result (λ item. item.pool ≡ pool) }
+        ensures known { IfOk result (λ item. item.known ≡ note) }
+        ensures pulled { IfOk result (λ item.
+            Pulls K.meets I.answers R.leaves (stack_init self.now) item.value note) }
         ensures refused { IfErr result (Refuses ⊤ (I.answers (stack_init self.now) None) ⊥) }
     {
         match kept {
-            Some((value, room)) => Ok(PulledValue { value, room, note }),
+            Some((value, room)) => Ok(StackReusable {
+                pool,
+                rt,
+                note,
+                room,
+                value,
+            }),
             None => {
                 let (value, room) = self.made()?;
-                Ok(PulledValue { value, room, note })
+                Ok(StackReusable {
+                    pool,
+                    rt,
+                    note,
+                    room,
+                    value,
+                })
             }
         }
     }
@@ -240,25 +252,5 @@ impl<
         ensures { IsNoteOf (F.lock (stack_list self.now)) result }
     {
         self.kept.note()
-    }
-
-    /// Resets a value and keeps it. If the reset rejects it, it is dropped without the lock, and so
-    /// is its room.
-    pub(crate) fn give<W: Wait>(
-        &self,
-        rt: &W,
-        note: StackNote<T>,
-        room: Room<T>,
-        value: T,
-    ) -> StackNote<T>
-        requires { IsNoteOf (F.lock (stack_list self.now)) note }
-        ensures of { IsNoteOf (F.lock (stack_list self.now)) result }
-        ensures given_back { IsGivenBack (R.leaves (stack_reset self.now))
-            (R.rejects (stack_reset self.now)) value note result }
-    {
-        match self.reset.try_reset(value) {
-            Some(left) => self.kept.give(rt, note, room, left),
-            None => note,
-        }
     }
 }

@@ -44,8 +44,8 @@ pub trait SharedStackPool<T>: Drop {
     fn note(&self) -> StackNote<T>
         ensures { IsNoteOf (lock self.now) result };
 
-    /// Resets a value and keeps it, after all that a note knows, or drops it if the reset rejects
-    /// it. It takes no memory besides what the reset takes.
+    /// Resets a value and keeps it, after all that a note knows. If the reset rejects the value,
+    /// drops it and its room, without the lock. It takes no memory besides what the reset takes.
     fn give<W: Wait>(&self, rt: &W, note: StackNote<T>, room: Room<T>, value: T) -> StackNote<T>
         requires { IsNoteOf (lock self.now) note }
         ensures of { IsNoteOf (lock self.now) result }
@@ -81,7 +81,10 @@ impl<
         ensures given_back { IsGivenBack (R.leaves (stack_reset self.now.now))
             (R.rejects (stack_reset self.now.now)) value note result }
     {
-        (**self).give(rt, note, room, value)
+        match self.reset.try_reset(value) {
+            Some(left) => self.kept.give(rt, note, room, left),
+            None => note,
+        }
     }
 }
 
@@ -115,7 +118,10 @@ impl<
         ensures given_back { IsGivenBack (R.leaves (stack_reset (arc_value self.now)))
             (R.rejects (stack_reset (arc_value self.now))) value note result }
     {
-        (**self).give(rt, note, room, value)
+        match (**self).reset.try_reset(value) {
+            Some(left) => (**self).kept.give(rt, note, room, left),
+            None => note,
+        }
     }
 }
 
@@ -146,13 +152,6 @@ impl<T: Drop, P: SharedStackPool<T>, W: Wait + Copy> ReturnPermission<T, P> for 
     }
 }
 
-/// A value that a pull took or made, with the room for its return, and what is known by the pull.
-pub(crate) struct PulledValue<T> {
-    pub value: T,
-    pub room: Room<T>,
-    pub note: StackNote<T>,
-}
-
 /// A value with the room for its return. Its drop resets the value, waits for the pool's lock and
 /// returns the value to the pool. So does `give_back`; no other call of it waits.
 ///
@@ -166,11 +165,11 @@ pub(crate) struct PulledValue<T> {
 /// assert_eq!(rt; item.detach(), 5); // the value is out of the pool for good
 /// ```
 pub struct StackReusable<T: Drop, P: SharedStackPool<T>, W: ReturnPermission<T, P>> {
-    pool: P,
-    rt: W,
-    note: StackNote<T>,
-    room: Room<T>,
-    value: T,
+    pub(crate) pool: P,
+    pub(crate) rt: W,
+    pub(crate) note: StackNote<T>,
+    pub(crate) room: Room<T>,
+    pub(crate) value: T,
 }
 
 impl<T: Drop, P: SharedStackPool<T>, W: ReturnPermission<T, P>> Model for StackReusable<T, P, W> {
@@ -207,8 +206,13 @@ impl<T: Drop, P: SharedStackPool<T>, W: ReturnPermission<T, P>> StackReusable<T,
         match pool.room() {
             Ok(room) => {
                 let note = pool.note();
-                let attached = PulledValue { value, room, note };
-                Ok(StackReusable::pulled(pool, *rt, attached))
+                Ok(StackReusable {
+                    pool,
+                    rt: *rt,
+                    note,
+                    room,
+                    value,
+                })
             }
             Err(_) => Err(value),
         }
@@ -246,23 +250,6 @@ impl<T: Drop, P: SharedStackPool<T>, W: ReturnPermission<T, P>> StackReusable<T,
             value,
         } = self;
         rt.give_to(&pool, note, room, value)
-    }
-
-    /// Makes the reusable of a value that was pulled or attached.
-    pub(crate) fn pulled(pool: P, rt: W, pulled: PulledValue<T>) -> StackReusable<T, P, W>
-        requires { IsNoteOf (P.lock pool) pulled.note }
-        ensures pool { result.pool ≡ pool }
-        ensures value { result.value ≡ pulled.value }
-        ensures known { result.known ≡ pulled.note }
-    {
-        let PulledValue { value, room, note } = pulled;
-        StackReusable {
-            pool,
-            rt,
-            note,
-            room,
-            value,
-        }
     }
 }
 
