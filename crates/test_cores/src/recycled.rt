@@ -4,12 +4,11 @@ ghost use Rattle.std.specs.Prelude.{⊤};
 
 use crate::answer::Stopped;
 use crate::comparison::{compare_ends, compare_openings, play};
-use crate::dice::Dice;
 use crate::figures::Figures;
 use crate::maker::traced;
 use crate::pools::{OnLinear, refuse_opening};
 use crate::session::Session;
-use crate::side::{Ask, OnCore, Pulled, Side, Walk, number_of};
+use crate::side::{Ask, OnCore, Pulled, Side, number_of};
 use crate::tallies::Tallies;
 use crate::tally::SideTally;
 use crate::value::Value;
@@ -19,6 +18,7 @@ use lockfree_object_pool::recycling::{Pool, Recyclable, Recycler};
 use object_pool_cores::buffers::{Buffer, BufferPool, Empty};
 use object_pool_cores::sequential::LinearCore;
 use std::alloc::{AllocError, Global};
+use std::marker::PhantomData;
 use std::sync::Arc;
 
 /// A number that says itself how it is made and reset. Each reset leaves a trace.
@@ -150,34 +150,19 @@ impl<I: Init<Vec<u8>, Empty>, R: Reset<Vec<u8>, Empty>> Pulled for Buffer<'_, I,
     }
 }
 
-/// A pool of buffers, which it gives under a borrow alone. It writes each method of its trait, since
-/// the checker refuses one that an impl at named types leaves to its trait.
+/// A pool of buffers, which it gives under a borrow alone. Its parameter stands for nothing: the
+/// checker refuses the impl without one.
 #[derive(Drop)]
-struct OnBuffers<'p> {
+struct OnBuffers<'p, V> {
     pool: &'p BufferPool<NewBuffers, Empties>,
+    marker: PhantomData<V>,
 }
 
-impl<'p> Side for OnBuffers<'p> {
+impl<'p, V: Copy> Side for OnBuffers<'p, V> {
     type Item = Buffer<'p, NewBuffers, Empties>;
 
     fn give(&mut self, _ask: Ask, _tally: &Arc<SideTally>) -> Result<Self::Item, PullError> {
         self.pool.pull()
-    }
-
-    fn take_back(&mut self, item: Self::Item) -> bool {
-        drop(item);
-        true
-    }
-
-    fn draw_walk(&self, _dice: &mut Dice) -> Walk {
-        Walk {
-            page: 0,
-            limit: None,
-        }
-    }
-
-    fn pages(&mut self) -> Result<usize, Stopped> {
-        Ok(0)
     }
 }
 
@@ -198,7 +183,10 @@ pub fn compare_buffers(alloc: Global, session: Session) -> Result<Figures, Stopp
     let Some((pool, core)) = compare_openings(&tallies, pool, core)? else {
         return Ok(Figures::default());
     };
-    let buffers = OnBuffers { pool: &pool };
+    let buffers = OnBuffers::<u8> {
+        pool: &pool,
+        marker: PhantomData,
+    };
     let ended = play(alloc, buffers, OnCore::new(core), session, tallies, 0)?;
     drop(pool);
     compare_ends(ended)
