@@ -1,8 +1,10 @@
 //! Turns on the mutex pool and the spin lock pool, which are one pool over two kinds of list.
+ghost use Rattle.std.specs.Prelude.{⊤};
+
 use crate::observer::Turns;
 use crate::supply::{Buffer, Supply, refused};
 use lockfree_object_pool::clean::AnyValue;
-use lockfree_object_pool::closures::Keep;
+use lockfree_object_pool::closures::Reset;
 use lockfree_object_pool::free_list::FreeList;
 use lockfree_object_pool::kept_stack::KeptStack;
 use lockfree_object_pool::made_or_reset::MadeOrReset;
@@ -13,8 +15,24 @@ use lockfree_object_pool::{MutexObjectPool, PullError, SpinLockObjectPool};
 use std::alloc::Global;
 use std::sync::{Arc, Mutex, Wait};
 
+/// A reset that rejects buffers that aren't empty.
+#[derive(Drop)]
+pub struct KeepEmpty;
+
+impl Reset<Buffer, AnyValue> for KeepEmpty {
+    ghost rejects = { λ _ _. ⊤ };
+
+    fn reset(&self, buffer: &mut Buffer) {
+        buffer.clear();
+    }
+
+    fn try_reset(&self, buffer: Buffer) -> Option<Buffer> {
+        buffer.is_empty().then_some(buffer)
+    }
+}
+
 /// What these pools keep.
-type KeptBuffers = MadeOrReset<Supply, Keep, AnyValue>;
+type KeptBuffers = MadeOrReset<Supply, KeepEmpty, AnyValue>;
 
 /// The list of a mutex pool.
 type Mutexed = Mutex<Stack<Buffer, KeptBuffers>>;
@@ -22,7 +40,7 @@ type Mutexed = Mutex<Stack<Buffer, KeptBuffers>>;
 /// The list of a spin lock pool.
 type SpinLocked = KeptStack<Buffer, KeptBuffers>;
 
-type Pool<F> = StackObjectPool<Buffer, Supply, Keep, AnyValue, F>;
+type Pool<F> = StackObjectPool<Buffer, Supply, KeepEmpty, AnyValue, F>;
 
 /// A list of which a pool can be made.
 trait List: FreeList<Buffer, KeptBuffers> {
@@ -31,14 +49,14 @@ trait List: FreeList<Buffer, KeptBuffers> {
 
 impl List for Mutexed {
     fn new_pool(alloc: Global, supply: &Supply) -> Option<Arc<Pool<Mutexed>>> {
-        let pool = MutexObjectPool::new(alloc, supply.share()?, Keep);
+        let pool = MutexObjectPool::new(alloc, supply.share()?, KeepEmpty);
         Arc::new(alloc, pool).ok()
     }
 }
 
 impl List for SpinLocked {
     fn new_pool(alloc: Global, supply: &Supply) -> Option<Arc<Pool<SpinLocked>>> {
-        let pool = SpinLockObjectPool::new(alloc, supply.share()?, Keep).ok()?;
+        let pool = SpinLockObjectPool::new(alloc, supply.share()?, KeepEmpty).ok()?;
         Arc::new(alloc, pool).ok()
     }
 }
@@ -89,12 +107,13 @@ fn refused_pulls<F: List, W: Wait + Copy>(rt: &W, alloc: Global, turns: usize) -
     Some(())
 }
 
-/// Items are pulled and returned, and one leaves its pool for good.
+/// Items are pulled and returned, one of which is rejected, and one leaves its pool for good.
 fn returns<F: List, W: Wait + Copy>(rt: &W, alloc: Global, turns: usize) -> Option<()> {
     let pool = F::new_pool(alloc, &Supply::endless(alloc)?)?;
     for _ in 0..turns {
         let _borrowed = pool.pull(rt).ok()?;
         let _owned = pool.pull_owned(rt).ok()?;
+        pool.pull(rt).ok()?.push(1).ok()?;
         drop(pool.pull(rt).ok()?.detach());
     }
     Some(())

@@ -128,6 +128,17 @@ fn a_worker_with_much_room_keeps_all(rt: HostRuntime) {
     plays(&rt, Kind::Lazy(3), &[Some(40)], &[kept, returned]);
 }
 
+/// Past what a byte, and a word of 32 pages, count.
+#[test]
+fn a_worker_with_great_room_keeps_so_many(rt: HostRuntime) {
+    let kept = (
+        "pull*1100; return*1100; stands; pull*1025; stands",
+        "pulled _ 0+; returned; made 1100 uses 1025; pulled _ _; made 1100 uses 1025",
+    );
+    let returned = ("stands", "made 1100 uses 0");
+    plays(&rt, Kind::Lazy(1_100), &[Some(1_025)], &[kept, returned]);
+}
+
 #[test]
 fn a_worker_with_no_room_keeps_none(rt: HostRuntime) {
     let returned = (

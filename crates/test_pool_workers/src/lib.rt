@@ -26,3 +26,5 @@ mod pools;
 mod sends;
 #[cfg(test)]
 mod threads;
+#[cfg(test)]
+mod waiting;
