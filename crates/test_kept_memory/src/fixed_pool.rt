@@ -4,7 +4,7 @@ ghost use Rattle.std.specs.Prelude.{◌≤◌};
 use crate::observer::Turns;
 use crate::supply::{Buffer, Supply, refused};
 use lockfree_object_pool::closures::Keep;
-use lockfree_object_pool::{FixedObjectPool, PullError};
+use lockfree_object_pool::{FixedObjectPool, PullError, Worker};
 use std::alloc::Global;
 use std::sync::{Arc, Wait};
 
@@ -81,7 +81,7 @@ fn all_are_held(pool: &Arc<Pool>, turns: usize) -> Option<()> {
     Some(())
 }
 
-/// Items are pulled and returned.
+/// Items are pulled and returned, one of them to a worker with room, which ends then.
 fn returns(alloc: Global, turns: usize) -> Option<()> {
     let pool = new_pool(alloc, &Supply::endless(alloc)?, ITEMS)?;
     for turn in 0..turns {
@@ -90,6 +90,8 @@ fn returns(alloc: Global, turns: usize) -> Option<()> {
         let _owned = pool.pull_owned().ok()?;
         let (holding, value) = pool.pull_apart(turn).ok()?;
         pool.give(holding, value);
+        let worker = Worker::with_room(alloc, pool.near(), 8).ok()?;
+        drop(worker.pull().ok()?);
     }
     Some(())
 }
