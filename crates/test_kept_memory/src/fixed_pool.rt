@@ -81,7 +81,7 @@ fn all_are_held(pool: &Arc<Pool>, turns: usize) -> Option<()> {
     Some(())
 }
 
-/// Items are pulled and returned, one of them to a worker with room, which ends then.
+/// Items are pulled and returned, one of them by a worker with room, which ends then.
 fn returns(alloc: Global, turns: usize) -> Option<()> {
     let pool = new_pool(alloc, &Supply::endless(alloc)?, ITEMS)?;
     for turn in 0..turns {

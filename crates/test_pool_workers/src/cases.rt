@@ -159,6 +159,23 @@ fn a_worker_of_a_closed_pool_returns_what_it_keeps(rt: HostRuntime) {
     plays(&rt, Kind::Lazy(3), &[Some(2)], &[closed]);
 }
 
+/// All that is kept leaves then: at the next return, or at the next pull.
+#[test]
+fn a_worker_of_a_closed_pool_returns_all(rt: HostRuntime) {
+    let returned = (
+        "pull*6; return*5; close; stands; counts; return; stands; counts",
+        "pulled 0+ 0+; returned; done; made 6 uses 5; calls 6 resets 5 drops 1; \
+         returned; made 6 uses 0; calls 6 resets 6 drops 6",
+    );
+    plays(&rt, Kind::Lazy(6), &[Some(4)], &[returned]);
+    let pulled = (
+        "pull*6; return*6; close; stands; pull; stands; counts",
+        "pulled 0+ 0+; returned; done; made 6 uses 6; \
+         refused closed; made 6 uses 0; calls 6 resets 6 drops 6",
+    );
+    plays(&rt, Kind::Lazy(6), &[Some(6)], &[pulled]);
+}
+
 /// An item that is held at the closing leaves when it comes back.
 #[test]
 fn a_worker_of_a_closed_pool_keeps_nothing_that_comes_back(rt: HostRuntime) {
