@@ -11,7 +11,11 @@ use std::sync::{Mutex, PoisonError};
 pub struct Place(usize);
 
 impl Place {
-    /// Takes over the right to a place. Safety: it was pulled, and nobody else has it.
+    /// Takes over the right to a place.
+    ///
+    /// # Safety
+    ///
+    /// The place was pulled, and nobody else has it.
     #[inline(always)]
     pub(crate) unsafe fn held(number: usize) -> Place {
         Place(number)
@@ -133,7 +137,11 @@ impl Library {
     }
 
     /// Returns a place. If it wasn't known that one may be found, it makes this call before that is
-    /// said. Safety: the handle and the place are of this pool.
+    /// said.
+    ///
+    /// # Safety
+    ///
+    /// The handle and the place are of this pool.
     #[inline(always)]
     pub(crate) unsafe fn give_back(
         &self,

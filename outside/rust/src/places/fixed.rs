@@ -96,7 +96,11 @@ impl Fixed {
         })
     }
 
-    /// Returns a place. Safety: it is of this pool.
+    /// Returns a place.
+    ///
+    /// # Safety
+    ///
+    /// The place is of this pool.
     #[inline(always)]
     pub(crate) unsafe fn give_back(&self, place: Place) {
         let kept = threads::with_known(|number| match self.thread_slots.get(number) {
@@ -109,7 +113,11 @@ impl Fixed {
         }
     }
 
-    /// Returns a place that the thread doesn't keep. Safety: it is of this pool.
+    /// Returns a place that the thread doesn't keep.
+    ///
+    /// # Safety
+    ///
+    /// The place is of this pool.
     #[inline(never)]
     unsafe fn give_back_further(&self, place: Place) {
         // SAFETY: the handles below are of this pool, and the caller says it of the place.

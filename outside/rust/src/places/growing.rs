@@ -166,7 +166,11 @@ impl Growing {
         })
     }
 
-    /// Returns a place, which the thread may keep. Safety: it is of this pool.
+    /// Returns a place, which the thread may keep.
+    ///
+    /// # Safety
+    ///
+    /// The place is of this pool.
     #[inline(always)]
     pub(crate) unsafe fn give_back(self: &Arc<Self>, held: Held) {
         threads::with_known(|number| {
@@ -182,7 +186,11 @@ impl Growing {
 
     /// Returns a place of a thread that keeps as many as it may, or isn't noted. If it only returns
     /// places, so do those that it keeps but the last one: who pulls places writes where they go, so
-    /// each of many returns would wait for that. Safety: the place is of this pool.
+    /// each of many returns would wait for that.
+    ///
+    /// # Safety
+    ///
+    /// The place is of this pool.
     #[inline(never)]
     unsafe fn give_back_other(self: &Arc<Self>, mine: Option<Mine<'_>>, held: Held) {
         // A thread that isn't noted keeps this one, which it doesn't count.
@@ -197,7 +205,11 @@ impl Growing {
     }
 
     /// Returns a place by the thread's handle of its part. If there is none, the place is returned as
-    /// `give_back_far` does. Safety: it is of this pool.
+    /// `give_back_far` does.
+    ///
+    /// # Safety
+    ///
+    /// The place is of this pool.
     #[inline(always)]
     unsafe fn give_back_near(self: &Arc<Self>, mine: Option<Mine<'_>>, held: Held) {
         let mut way = mine.and_then(Mine::way);
@@ -214,7 +226,11 @@ impl Growing {
     }
 
     /// Keeps a place of a thread that isn't noted, which is noted then. Else this returns it by a
-    /// handle of its part, which is opened if it isn't. Safety: the place is of this pool.
+    /// handle of its part, which is opened if it isn't.
+    ///
+    /// # Safety
+    ///
+    /// The place is of this pool.
     #[cold]
     #[inline(never)]
     unsafe fn give_back_far(self: &Arc<Self>, mut held: Held) {
@@ -240,8 +256,11 @@ impl Growing {
         });
     }
 
-    /// Returns a place by this handle, and counts it for the thread. Safety: the place is of this
-    /// pool, and the handle of its part.
+    /// Returns a place by this handle, and counts it for the thread.
+    ///
+    /// # Safety
+    ///
+    /// The place is of this pool, and the handle of its part.
     #[inline(always)]
     unsafe fn give_back_by(&self, handle: &mut OwnHandle, mine: Option<Mine<'_>>, held: Held) {
         self.count(mine, -1);

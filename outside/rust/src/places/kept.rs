@@ -42,7 +42,11 @@ impl Kept {
         (seen != empty).then(|| unsafe { Kept::place(seen) })
     }
 
-    /// Takes over the right to the place that is kept in a word. Safety: it was taken out just now.
+    /// Takes over the right to the place that is kept in a word.
+    ///
+    /// # Safety
+    ///
+    /// The place was taken out just now.
     #[inline(always)]
     unsafe fn place(word: u64) -> Place {
         // SAFETY: who kept it had it, and nobody else has it now.

@@ -29,7 +29,11 @@ impl<V> Slots<V> {
     }
 
     /// Creates so many slots of zeros. Each page of their memory is first touched when one of its
-    /// slots is. `None` if memory is refused. Safety: zeros are a value, which isn't of size 0.
+    /// slots is. `None` if memory is refused.
+    ///
+    /// # Safety
+    ///
+    /// Zeros are a value, which isn't of size 0.
     pub(crate) unsafe fn zeroed(count: usize) -> Option<Slots<V>> {
         let capacity = Self::with_room(count)?;
         let layout = Layout::array::<Slot<V>>(capacity).ok()?;

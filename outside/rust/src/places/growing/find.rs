@@ -110,7 +110,11 @@ impl Growing {
     }
 
     /// Leaves a place without an item to a later pull that makes one. If that is refused memory, the
-    /// place isn't used any more. Safety: it is of this pool.
+    /// place isn't used any more.
+    ///
+    /// # Safety
+    ///
+    /// The place is of this pool.
     #[cold]
     pub(crate) unsafe fn leave_bare(&self, place: PulledPlace) {
         self.news.0.pulled.add(-1);

@@ -175,8 +175,11 @@ impl Places {
     }
 
     /// Returns a place, to which nobody comes from now on, and tells those that wait. Returns
-    /// whether the pool is closed. Safety: the place is of this pool, and has an item or none as
-    /// `is_made` says.
+    /// whether the pool is closed.
+    ///
+    /// # Safety
+    ///
+    /// The place is of this pool, and has an item or none as `is_made` says.
     #[inline(always)]
     pub(super) unsafe fn give_back(&self, place: Place, is_made: bool) -> bool {
         if is_made {
