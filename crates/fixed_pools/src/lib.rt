@@ -7,6 +7,7 @@ pub mod fixed_object_pool;
 pub mod fixed_owned_reusable;
 pub mod fixed_reusable;
 pub mod near;
+pub mod own_page;
 pub mod recycling;
 
 pub use fixed_object_pool::FixedObjectPool;

@@ -1,15 +1,20 @@
 //! A place at which one user of a fixed pool begins its pulls.
-ghost use Rattle.std.specs.Prelude.{◌≡◌, ◌+◌, IfOk, IfErr};
+ghost use Rattle.std.specs.Prelude.{◌≡◌, ◌+◌, ◌<◌, IfOk, IfErr};
 ghost use Rattle.pool_parts.specs.declared.pull_error.PullError.TheVariants.{Limit};
 
 use crate::fixed_object_pool::FixedObjectPool;
+use crate::fixed_object_pool::order::Order;
 use crate::fixed_reusable::FixedReusable;
+use crate::own_page::OwnPage;
 use pool_parts::PullError;
 use pool_parts::clean::{AnyValue, Clean};
 use pool_parts::closures::{Init, Reset};
 
 /// A fixed pool with a page at which pulls begin, for one thread that uses the pool again and
 /// again.
+///
+/// A page that had no free item is left: the next pull begins a page further. So the places of many
+/// threads stay apart, also where each thread holds more items than a page has.
 ///
 /// # Examples
 ///
@@ -24,7 +29,8 @@ use pool_parts::closures::{Init, Reset};
 pub struct Near<'p, T, I: Init<T, K>, R: Reset<T, K>, K: Clean<T> = AnyValue> {
     /// The pool of which it is a place.
     pub pool: &'p FixedObjectPool<T, I, R, K>,
-    page: usize,
+    /// Where its next pull begins.
+    pub own_page: OwnPage,
 }
 
 impl<'p, T: Drop, I: Init<T, K>, R: Reset<T, K>, K: Clean<T>> Near<'p, T, I, R, K> {
@@ -34,7 +40,10 @@ impl<'p, T: Drop, I: Init<T, K>, R: Reset<T, K>, K: Clean<T>> Near<'p, T, I, R, 
     pub(crate) fn new(pool: &'p FixedObjectPool<T, I, R, K>, page: usize) -> Near<'p, T, I, R, K>
         ensures { result.pool.now ≡ pool.now }
     {
-        Near { pool, page }
+        Near {
+            pool,
+            own_page: OwnPage::new(page),
+        }
     }
 
     /// Pulls a free item as [`FixedObjectPool::pull_near`] does, at the page of this place.
@@ -50,11 +59,20 @@ impl<'p, T: Drop, I: Init<T, K>, R: Reset<T, K>, K: Clean<T>> Near<'p, T, I, R, 
             item.known) }
         ensures refused { IfErr result (λ error. error ≡ Limit) }
     {
-        self.pool.pull_near(self.page)
+        let begun = self.page_number();
+        match self.pool.items.pull_in_order(begun, Some(Order::Hinted)) {
+            Ok(pulled) => {
+                self.own_page.go_on(begun, pulled.holding.number);
+                Ok(FixedReusable::new(self.pool, pulled))
+            }
+            Err(_) => Err(PullError::Limit),
+        }
     }
 
-    /// Returns the number of the page at which pulls begin, counted from 0.
-    pub fn page_number(&self) -> usize {
-        self.page
+    /// Returns the number of the page at which the next pull begins, counted from 0.
+    pub fn page_number(&self) -> usize
+        ensures { result < (fixed_view self.now.pool.now).pages }
+    {
+        self.pool.items.page_round(self.own_page.number())
     }
 }

@@ -1,9 +1,10 @@
 //! A place at which one user of a lazy pool begins its pulls.
-ghost use Rattle.std.specs.Prelude.{◌≡◌, ◌*◌, None, IfOk, IfErr, ◌+◌, ⊤};
+ghost use Rattle.std.specs.Prelude.{◌≡◌, ◌*◌, ◌<◌, None, IfOk, IfErr, ◌+◌, ⊤};
 
 use crate::lazy_object_pool::LazyObjectPool;
 use crate::lazy_reusable::LazyReusable;
 use fixed_pools::fixed_object_pool::order::Order;
+use fixed_pools::own_page::OwnPage;
 use pool_parts::PullError;
 use pool_parts::clean::{AnyValue, Clean};
 use pool_parts::closures::{Init, Reset};
@@ -11,7 +12,7 @@ use pool_parts::closures::{Init, Reset};
 /// A lazy pool with a page at which pulls begin, for one thread that uses the pool again and again.
 ///
 /// Its pulls make items on a page of their own. So the pool may make more items than were in use at
-/// once.
+/// once. A page that had no free item is left: the next pull begins a page further.
 ///
 /// # Examples
 ///
@@ -26,7 +27,8 @@ use pool_parts::closures::{Init, Reset};
 pub struct Near<'p, T, I: Init<T, K>, R: Reset<T, K>, K: Clean<T> = AnyValue> {
     /// The pool of which it is a place.
     pub pool: &'p LazyObjectPool<T, I, R, K>,
-    page: usize,
+    /// Where its next pull begins.
+    pub own_page: OwnPage,
 }
 
 impl<'p, T: Drop, I: Init<T, K>, R: Reset<T, K>, K: Clean<T>> Near<'p, T, I, R, K> {
@@ -37,7 +39,10 @@ impl<'p, T: Drop, I: Init<T, K>, R: Reset<T, K>, K: Clean<T>> Near<'p, T, I, R, 
     pub(crate) fn new(pool: &'p LazyObjectPool<T, I, R, K>, page: usize) -> Near<'p, T, I, R, K>
         ensures { result.pool.now ≡ pool.now }
     {
-        Near { pool, page }
+        Near {
+            pool,
+            own_page: OwnPage::new(page),
+        }
     }
 
     /// Pulls a free item, and makes it if its place is empty. It begins at the page of this place,
@@ -60,15 +65,20 @@ impl<'p, T: Drop, I: Init<T, K>, R: Reset<T, K>, K: Clean<T>> Near<'p, T, I, R, 
         if pool.is_closed() {
             return Err(PullError::Closed);
         }
-        let start = pool.places.page_round(self.page);
-        match pool.places.pull_in_order(start, Some(Order::Hinted)) {
-            Ok(pulled) => pool.reusable(pool, pulled),
+        let begun = self.page_number();
+        match pool.places.pull_in_order(begun, Some(Order::Hinted)) {
+            Ok(pulled) => {
+                self.own_page.go_on(begun, pulled.holding.number);
+                pool.reusable(pool, pulled)
+            }
             Err(_) => Err(PullError::Limit),
         }
     }
 
-    /// Returns the number of the page at which pulls begin, counted from 0.
-    pub fn page_number(&self) -> usize {
-        self.page
+    /// Returns the number of the page at which the next pull begins, counted from 0.
+    pub fn page_number(&self) -> usize
+        ensures { result < (lazy_view self.now.pool.now).pages }
+    {
+        self.pool.places.page_round(self.own_page.number())
     }
 }

@@ -77,8 +77,12 @@ impl<'p, T: Drop, I: Init<T, K>, R: Reset<T, K>, K: Clean<T>> WorkerPlace<T>
     #[inline(always)]
     fn pull(&self) -> Result<(FixedHeld<'p, T, I, R, K>, T), PullError> {
         let pool = self.pool;
-        match pool.pull_apart(self.page_number()) {
-            Ok((holding, value)) => Ok((FixedHeld { pool, holding }, value)),
+        let begun = self.page_number();
+        match pool.pull_apart(begun) {
+            Ok((holding, value)) => {
+                self.own_page.go_on(begun, holding.number);
+                Ok((FixedHeld { pool, holding }, value))
+            }
             Err(_) => Err(PullError::Limit),
         }
     }

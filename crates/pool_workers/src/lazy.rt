@@ -77,7 +77,9 @@ impl<'p, T: Drop, I: Init<T, K>, R: Reset<T, K>, K: Clean<T>> WorkerPlace<T>
     #[inline(always)]
     fn pull(&self) -> Result<(LazyHeld<'p, T, I, R, K>, T), PullError> {
         let pool = self.pool;
-        let (holding, value) = pool.pull_apart(self.page_number())?;
+        let begun = self.page_number();
+        let (holding, value) = pool.pull_apart(begun)?;
+        self.own_page.go_on(begun, holding.number);
         Ok((LazyHeld { pool, holding }, value))
     }
 

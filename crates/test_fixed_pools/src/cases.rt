@@ -128,6 +128,28 @@ fn a_pull_looks_behind_its_page_before_it_goes_round(rt: HostRuntime) {
     );
 }
 
+/// The place's page 0 is full, and the hint names page 2, to which others come too.
+#[test]
+fn a_place_whose_page_is_full_goes_on_to_the_next_page(rt: HostRuntime) {
+    plays(
+        &rt,
+        97,
+        "near 2*32; return 31; here*32; here; here; here",
+        "pulled 64+ 64+; returned; pulled 0+ 0+; pulled 95 95; pulled 32 32; pulled 33 33",
+    );
+}
+
+#[test]
+fn a_place_at_the_last_page_goes_on_to_the_first(rt: HostRuntime) {
+    plays(
+        &rt,
+        96,
+        "place; place; here*32; near 1*32; return 32; return 32; here; here",
+        "at page 1; at page 2; pulled 64+ 64+; pulled 32+ 32+; returned; returned; pulled 32 32; \
+         pulled 0 0",
+    );
+}
+
 #[test]
 fn places_begin_eight_pages_apart_and_then_between(rt: HostRuntime) {
     plays(

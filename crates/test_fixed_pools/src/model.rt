@@ -131,6 +131,16 @@ impl Model {
         self.hold(taken, is_owned)
     }
 
+    /// A pull at the place. If its page was full, the next one begins a page further.
+    fn pull_here(&mut self) -> Said {
+        let begun = self.near;
+        let taken = self.take(begun, Order::Hinted);
+        if taken.is_some_and(|number| number / 32 != begun) {
+            self.near = self.page_round(begun.wrapping_add(1));
+        }
+        self.hold(taken, false)
+    }
+
     /// Holds what was taken.
     fn hold(&mut self, taken: Option<usize>, is_owned: bool) -> Said {
         let Some(number) = taken else {
@@ -241,7 +251,7 @@ impl Player for Model {
             "pull" | "try" => self.pull(self.hint, Order::Round, false),
             "owned" => self.pull(self.hint, Order::Round, true),
             "near" => self.pull(first, Order::Hinted, false),
-            "here" => self.pull(self.near, Order::Hinted, false),
+            "here" => self.pull_here(),
             "owner" => self.pull(first, Order::Hinted, true),
             "place" => self.place(),
             "apart" | "apart_reset" => self.apart(first, second),

@@ -36,6 +36,8 @@ pub struct LazyGame<'p, R: Wait + Clock> {
     pub hand: Hand,
     /// How often a place near a page was asked for.
     nears: usize,
+    /// The page at which the next pull near one begins.
+    near_page: usize,
     pub event: Event,
     /// The clock of the next timed pull that waits.
     pub clock: Looks,
@@ -50,6 +52,7 @@ impl<'p, R: Wait + Clock> LazyGame<'p, R> {
             model,
             hand,
             nears: 0,
+            near_page: 0,
             event: Event::Nothing,
             clock: NO_TIME_LEFT,
             plan,
@@ -147,12 +150,13 @@ impl<'p, R: Wait + Clock> LazyGame<'p, R> {
         said: Said,
         refusal: Option<PullError>,
     ) -> bool {
+        let begun = self.near_page;
+        if word == "near" && refusal.is_none() {
+            self.go_on();
+        }
         match (said.words(), said.number(0), said.number(1)) {
             ("pulled", Some(number), Some(serial)) => {
-                let page = self.player.near.page_number().wrapping_mul(32);
-                let is_near = word != "near"
-                    || !self.model.has_free(page, 32)
-                    || number.wrapping_sub(page) < 32;
+                let is_near = self.is_near(word, begun, number);
                 let fits = self.model.take(number, serial, by_init);
                 self.hold(number, serial, word.contains("owned"))
                     && fits
@@ -166,6 +170,21 @@ impl<'p, R: Wait + Clock> LazyGame<'p, R> {
             ("refused closed", None, None) => refusal == Some(PullError::Closed),
             _ => false,
         }
+    }
+
+    /// A pull near a page, which finds a place. If the page has none, the next such pull begins a
+    /// page further.
+    fn go_on(&mut self) {
+        let page = self.near_page;
+        if !self.model.has_free(page.wrapping_mul(32), 32) {
+            let pages = self.model.items().div_ceil(32);
+            self.near_page = page.wrapping_add(1).checked_rem(pages).unwrap_or(0);
+        }
+    }
+
+    /// Whether a pull by this word may find this item, if pulls near a page began at this one.
+    fn is_near(&self, word: &str, begun: usize, number: usize) -> bool {
+        word != "near" || begun != self.near_page || number / 32 == begun
     }
 
     /// Whether what an item leaves by is answered so.
@@ -221,6 +240,7 @@ impl<'p, R: Wait + Clock> LazyGame<'p, R> {
         let line = self.nears.checked_rem(lines).unwrap_or(0);
         let turn = self.nears.checked_div(lines).unwrap_or(0) % 8;
         let page = line.wrapping_mul(8).wrapping_add(turn).checked_rem(pages);
+        self.near_page = page.unwrap_or(0);
         said.number(0) == page
     }
 
@@ -279,5 +299,6 @@ impl<'p, R: Wait + Clock> Game for LazyGame<'p, R> {
             _ => self.is_fair_pull(word, said),
         };
         fits && self.standing() == self.expected()
+            && self.player.near.page_number() == self.near_page
     }
 }

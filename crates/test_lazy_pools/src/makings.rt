@@ -57,6 +57,16 @@ fn pulls_near_their_pages_make_items_there(rt: HostRuntime) {
 }
 
 #[test]
+fn a_place_whose_page_is_full_makes_items_on_the_next_page(rt: HostRuntime) {
+    plays(
+        &rt,
+        300,
+        "near_page; near*32; pull; return 0; near; near; stands",
+        "page 8; pulled 256+ 0+; pulled 0 32; left; pulled 0 32; pulled 288 33; made 34 34 0",
+    );
+}
+
+#[test]
 fn what_is_in_use_is_counted(rt: HostRuntime) {
     plays(
         &rt,
