@@ -5,8 +5,6 @@ use denote.Param.SendFields.{declared_sync}
 use Rattle.atomic_table.specs.contracts.badge.Badge as badge
 use Rattle.atomic_table.proofs.badge.Badge.TheSendSync.{the_send}
 use Rattle.history_lock.specs.contracts.rule.Visitor as Visitor
-use Rattle.history_lock.specs.contracts.maybe_seen.MaybeSeen as MaybeSeen
-use Rattle.history_lock.specs.contracts.maybe_seen.MaybeSeen.TheInside as MaybeInside
 use Rattle.history_lock.specs.contracts.seen.Seen as Seen
 use Rattle.history_lock.specs.contracts.seen.Seen.TheInside as Inside
 
@@ -17,7 +15,3 @@ badge_sync V = record { shared = λ view b o κ q. part_keyless (badge.the_row V
 pub seen_sync : (E : RattleType) → IsSync (Seen.the_row E)
 seen_sync E =
     view_sync (Inside.the_row E) _ _ _ _ (declared_sync (Inside.the_type E) (badge_sync (Visitor.the_row E), tt))
-
-pub maybe_seen_sync : (E : RattleType) → IsSync (MaybeSeen.the_row E)
-maybe_seen_sync E =
-    view_sync (MaybeInside.the_row E) _ _ _ _ (declared_sync (MaybeInside.the_type E) (badge_sync (Visitor.the_row E), tt))

@@ -6,12 +6,10 @@
 
 pub mod law;
 pub mod lock;
-pub mod maybe_seen;
 mod rule;
 pub mod seen;
 
 pub use law::{Law, Section};
 pub use lock::{HistoryLock, Turn};
-pub use maybe_seen::MaybeSeen;
 pub use rule::Visitor;
 pub use seen::Seen;

@@ -21,7 +21,7 @@ use std::marker::Model;
 /// let item = pool.pull_after(&rt, note)?; // comes after all that the note knew
 /// ```
 pub struct StackNote<T> {
-    // Blank if the note knows nothing.
+    /// Blank if the note knows nothing.
     pub(crate) badge: Badge<Visitor<Operation<T>>>,
 }
 
