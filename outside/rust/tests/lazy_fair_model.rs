@@ -1,5 +1,5 @@
 //! Every interleaving of the queue of a fair lazy pool, in small cases. The steps are those of
-//! `src/lazy_pool/queue.rs` and `turn.rs`. A look for a place is one step, since a refused one had a
+//! `src/pools/lazy/queue.rs` and `turn.rs`. A look for a place is one step, since a refused one had a
 //! moment at which no place was free (`lazy_refusal_model.rs`).
 //!
 //! At first each place is in use, and its holder returns it once. Who gets a place later keeps it
@@ -14,6 +14,7 @@ enum Fault {
     ReturnServesNobody,
     ReadsWaitingBeforeItsReturn,
     EntersWithoutServing,
+    ServesAfterItEntered,
     CountsItselfAfterServing,
     HandedOneIsNotWoken,
     LeavesWithItsPlace,
@@ -29,10 +30,10 @@ enum Step {
     /// A pull: it reads how many wait, and tries.
     Comes,
     Tries,
-    /// It comes last, and counts itself.
+    /// It comes last, and counts itself. If nobody waits before it, it serves with the same lock.
     Enters,
     Counts,
-    /// It serves the queue: with the lock it takes a place, hands it over, and wakes.
+    /// It serves the first one: with the lock it takes a place, hands it over, and wakes.
     Locks,
     Takes,
     Hands,
@@ -157,13 +158,17 @@ impl State {
             Tries => self.goes(me, Enters),
             Enters | Leaves if self.is_locked => vec![],
             Enters => change(&|state| {
+                let is_first = state.queue.iter().all(|(_, is_handed)| *is_handed);
                 state.queue.push((me, false));
                 state.waiting += u8::from(fault != Fault::CountsItselfAfterServing);
                 state.threads[me].enters = true;
                 state.threads[me].step = match fault {
                     Fault::EntersWithoutServing => Looks,
-                    _ => Locks,
+                    Fault::ServesAfterItEntered if is_first => Locks,
+                    _ if is_first => Takes,
+                    _ => state.has_served(me, fault),
                 };
+                state.is_locked = state.threads[me].step == Takes;
             }),
             Counts => change(&|state| {
                 state.waiting += 1;
@@ -239,12 +244,7 @@ impl State {
                 state.threads[me].step = Hands;
             }),
             Takes => change(&|state| {
-                state.is_locked = false;
-                state.threads[me].step = match (state.threads[me].enters, fault) {
-                    (true, Fault::CountsItselfAfterServing) => Counts,
-                    (true, _) => Looks,
-                    (false, _) => Ended,
-                };
+                (state.is_locked, state.threads[me].step) = (false, state.has_served(me, fault));
             }),
             Hands => change(&|state| {
                 state.is_locked = false;
@@ -259,11 +259,20 @@ impl State {
             }),
             Wakes => change(&|state| {
                 let other = state.threads[me].wakes;
-                let wakes = fault != Fault::HandedOneIsNotWoken;
+                let wakes = fault != Fault::HandedOneIsNotWoken && other != me;
                 state.threads[other].token |= wakes && state.threads[other].step != Ended;
-                (state.threads[me].wakes, state.threads[me].step) = (0, Locks);
+                (state.threads[me].wakes, state.threads[me].step) = (0, state.has_served(me, fault));
             }),
             step => unreachable!("{step:?}"),
+        }
+    }
+
+    /// What one does after it served.
+    fn has_served(&self, me: usize, fault: Fault) -> Step {
+        match (self.threads[me].enters, fault) {
+            (true, Fault::CountsItselfAfterServing) => Counts,
+            (true, _) => Looks,
+            (false, _) => Ended,
         }
     }
 
@@ -317,16 +326,16 @@ fn places_go_to_those_that_wait_in_their_order() {
         (2, [1, 0, 0]),
         (2, [0, 1, 0]),
         (2, [0, 0, 2]),
+        (2, [2, 0, 0]),
     ]);
 }
 
 #[test]
-#[ignore = "a minute with optimization"]
+#[ignore = "some seconds with optimization"]
 fn places_go_to_those_that_wait_in_their_order_in_larger_cases() {
     none_is_bad(&[
         (1, [2, 1, 0]),
         (1, [2, 0, 1]),
-        (2, [2, 0, 0]),
         (2, [1, 1, 0]),
         (1, [3, 0, 0]),
         (1, [1, 1, 1]),
@@ -339,6 +348,7 @@ fn each_wrong_queue_has_a_sleeper_or_another_order() {
         (Fault::ReturnServesNobody, 1, [1, 0, 0]),
         (Fault::ReadsWaitingBeforeItsReturn, 1, [1, 0, 0]),
         (Fault::EntersWithoutServing, 1, [1, 0, 0]),
+        (Fault::ServesAfterItEntered, 2, [2, 0, 0]),
         (Fault::CountsItselfAfterServing, 1, [1, 0, 0]),
         (Fault::HandedOneIsNotWoken, 1, [1, 0, 0]),
         (Fault::LeavesWithItsPlace, 1, [1, 1, 0]),

@@ -164,14 +164,7 @@ impl Places {
 
     /// Comes last in the queue, and returns the ticket. `None` if memory is refused.
     pub(super) fn enter_queue(&self, wake: Wake) -> Option<u64> {
-        let ticket = self.queue.enter(self.signs(), wake)?;
-        self.serve();
-        Some(ticket)
-    }
-
-    /// Hands the places that are free to those that are first in the queue.
-    fn serve(&self) {
-        while self.queue.hand(self.signs(), || self.any_later()) {}
+        self.queue.enter(self.signs(), wake, || self.any_later())
     }
 
     /// Returns a place, to which nobody comes from now on, and tells those that wait. Returns
@@ -200,7 +193,7 @@ impl Places {
             self.signs().made_came();
         }
         if self.queue.is_awaited() {
-            self.serve();
+            self.queue.hand(self.signs(), || self.any_later());
         }
         if signs.waiting() > 0 && !self.is_fair() {
             self.waiters.wake();

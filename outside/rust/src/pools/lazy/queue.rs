@@ -73,8 +73,14 @@ impl Queue {
         self.waiting.load(SeqCst) != 0
     }
 
-    /// Comes last, and returns the ticket. `None` if memory is refused.
-    pub(super) fn enter(&self, signs: &Signs, wake: Wake) -> Option<u64> {
+    /// Comes last, and returns the ticket. If nobody waits before it, it looks for a place. Who comes
+    /// after others needn't: each return since their look serves one. `None` if memory is refused.
+    pub(super) fn enter(
+        &self,
+        signs: &Signs,
+        wake: Wake,
+        look: impl FnOnce() -> Any,
+    ) -> Option<u64> {
         let mut line = self.lock();
         line.all.try_reserve(1).ok()?;
         line.last += 1;
@@ -86,28 +92,35 @@ impl Queue {
         });
         self.waiting.fetch_add(1, SeqCst);
         signs.enter();
+        let is_first = line.served + 1 == line.all.len();
+        let own = is_first.then(|| self.hand_first(&mut line, signs, look));
+        drop((line, own)); // what would wake it is dropped after the lock
         Some(ticket)
     }
 
-    /// Hands a place to the first one that has none, and wakes it. Returns `false` if nobody waits,
-    /// or this finds no place.
-    pub(super) fn hand(&self, signs: &Signs, place: impl FnOnce() -> Any) -> bool {
+    /// Hands a place to the first one that has none, and wakes it, if one waits and this finds a
+    /// place.
+    pub(super) fn hand(&self, signs: &Signs, look: impl FnOnce() -> Any) {
         let mut line = self.lock();
+        let wake = self.hand_first(&mut line, signs, look);
+        drop(line);
+        wake.into_iter().for_each(Wake::wake);
+    }
+
+    /// Hands a place as `hand` does, and returns what wakes who has it.
+    fn hand_first(
+        &self,
+        line: &mut Line,
+        signs: &Signs,
+        look: impl FnOnce() -> Any,
+    ) -> Option<Wake> {
         let served = line.served;
-        let Some(first) = line.all.get_mut(served) else {
-            return false;
-        };
-        let Some(Ok(place)) = place() else {
-            return false;
-        };
-        let wake = first.wake.take();
-        first.place = Some(place);
+        let first = line.all.get_mut(served)?;
+        first.place = Some(look()?.ok()?);
         self.count_off(signs);
         self.served.store(first.ticket, SeqCst);
         line.served += 1;
-        drop(line);
-        wake.into_iter().for_each(Wake::wake);
-        true
+        first.wake.take()
     }
 
     fn count_off(&self, signs: &Signs) {
@@ -117,7 +130,12 @@ impl Queue {
 
     /// Returns whether who has this ticket was handed a place, if it didn't leave.
     pub(super) fn is_served(&self, ticket: u64) -> bool {
-        self.served.load(SeqCst) >= ticket
+        self.ahead(ticket) == 0
+    }
+
+    /// Returns how many tickets come up to this one before it is served, also of those that left.
+    pub(super) fn ahead(&self, ticket: u64) -> u64 {
+        ticket.saturating_sub(self.served.load(SeqCst))
     }
 
     /// Takes the place that was handed to this ticket, or leaves a closed pool. Else it is woken so

@@ -11,6 +11,11 @@ use std::thread;
 
 /// How often a thread looks whether a place was handed to it before it sleeps.
 const LOOKS: usize = 100;
+/// How often it looks so for the only place of a pool, and lets others run meanwhile, if it is one of
+/// the next so many. Nobody has that place while one to whom it was handed wakes up. Of more places
+/// others are in use then, and most threads run with no wait if those that wait sleep.
+const YIELDS: usize = 30;
+const NEXT: u64 = 8;
 
 /// A pull that waits for its turn. At its end it leaves the queue, and a place that was handed to
 /// it goes on to the next.
@@ -63,9 +68,15 @@ impl<'p, T, E> Turn<'p, T, E> {
 
     /// Looks for some time whether a place was handed to it.
     fn is_due_soon(&self, ticket: u64) -> bool {
-        (0..LOOKS).any(|_| {
-            spin_loop();
-            self.pool.places.queue.is_served(ticket) || self.pool.is_closed()
+        let places = &self.pool.places;
+        let is_next = places.count() == 1 && places.queue.ahead(ticket) <= NEXT;
+        let (looks, between) = match is_next {
+            true => (YIELDS, thread::yield_now as fn()),
+            false => (LOOKS, spin_loop as fn()),
+        };
+        (0..looks).any(|_| {
+            between();
+            places.queue.is_served(ticket) || self.pool.is_closed()
         })
     }
 }
