@@ -126,11 +126,7 @@ fn lazy(items: usize) -> LazyPool<u64, ()> {
 
 /// The least nanoseconds a turn of some rounds, each of which is as long as its slowest thread's.
 fn least(threads: usize, turns: usize, turn: impl Fn() + Sync) -> f64 {
-    let (turns, begun, ends) = (
-        turns.div_ceil(ROUNDS),
-        AtomicUsize::new(0),
-        Barrier::new(threads),
-    );
+    let (turns, begun, ends) = (turns.div_ceil(ROUNDS), AtomicUsize::new(0), Barrier::new(threads));
     let run = || {
         let rounds = 1..=ROUNDS;
         let times = rounds.map(|round| {
@@ -169,11 +165,8 @@ fn turns_a_second(threads: usize, turns: usize, turn: impl Fn() + Sync) -> f64 {
 
 fn pulls(turns: usize) {
     println!("{ITEMS} items, nanoseconds a pull and return, the least of {ROUNDS} rounds");
-    let (made, few, fixed) = (
-        lazy(ITEMS),
-        lazy(ITEMS),
-        Pool::new(ITEMS, || 0, |number| *number = 0),
-    );
+    let (made, few, fixed) =
+        (lazy(ITEMS), lazy(ITEMS), Pool::new(ITEMS, || 0, |number| *number = 0));
     made.fill(ITEMS).expect("it makes them");
     let fixed = fixed.expect("there is memory");
     for threads in [1, 2, 4] {
@@ -237,9 +230,8 @@ fn waits(turns: usize) {
 }
 
 fn main() {
-    let turns = env::var("KUNDRATU_BENCH_TURNS").map_or(1_000_000, |turns| {
-        turns.parse().expect("KUNDRATU_BENCH_TURNS is a number")
-    });
+    let turns = env::var("KUNDRATU_BENCH_TURNS")
+        .map_or(1_000_000, |turns| turns.parse().expect("KUNDRATU_BENCH_TURNS is a number"));
     let words: Vec<_> = env::args().skip(1).collect();
     let parts = ["pulls", "first", "waits"];
     let is_named = |part: &str| words.iter().any(|word| word == part);

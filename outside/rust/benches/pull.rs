@@ -13,12 +13,8 @@ const ROUNDS: usize = 5;
 /// Nanoseconds a pull and return, of the best of some rounds, while so many items are held and so
 /// many threads pull.
 fn measure(pool: &Pool<u64>, held: usize, threads: usize, turns: u32) -> f64 {
-    let guards: Vec<_> = (0..held)
-        .map(|_| pool.pull().expect("one is free"))
-        .collect();
-    let best = (0..ROUNDS)
-        .map(|_| one_round(pool, threads, turns))
-        .fold(f64::INFINITY, f64::min);
+    let guards: Vec<_> = (0..held).map(|_| pool.pull().expect("one is free")).collect();
+    let best = (0..ROUNDS).map(|_| one_round(pool, threads, turns)).fold(f64::INFINITY, f64::min);
     drop(guards);
     best
 }
@@ -81,29 +77,22 @@ fn grow(turns: u32) {
     }
     println!("LinearObjectPool, nanoseconds an item: its first pull, its return, a pull again");
     let sizes = [4_096, 32_768, 262_144, 1_048_576, 4_194_304];
-    for items in sizes
-        .into_iter()
-        .filter(|items| *items <= turns as usize * 5)
-    {
+    for items in sizes.into_iter().filter(|items| *items <= turns as usize * 5) {
         let [first, give_back, again] = first_pulls(items);
         println!("{items:>9}: {first:.1}, {give_back:.1}, {again:.1}");
     }
 }
 
 fn main() {
-    let turns = env::var("KUNDRATU_BENCH_TURNS").map_or(1_000_000, |turns| {
-        turns.parse().expect("KUNDRATU_BENCH_TURNS is a number")
-    });
+    let turns = env::var("KUNDRATU_BENCH_TURNS")
+        .map_or(1_000_000, |turns| turns.parse().expect("KUNDRATU_BENCH_TURNS is a number"));
     let pool = Pool::new(ITEMS, || 0_u64, |number| *number = 0).expect("there is memory");
     println!("{ITEMS} items, nanoseconds a pull and return");
     for held in [0, 32, 1_024, 32_768] {
         println!("{held:>6} held: {:.1}", measure(&pool, held, 1, turns));
     }
     for threads in [2, 4] {
-        println!(
-            "{threads} threads: {:.1}",
-            measure(&pool, 0, threads, turns)
-        );
+        println!("{threads} threads: {:.1}", measure(&pool, 0, threads, turns));
     }
     grow(turns);
 }

@@ -46,17 +46,10 @@ fn main() -> Result<(), Box<dyn Error>> {
     let listener = TcpListener::bind("127.0.0.1:0")?;
     let address = listener.local_addr()?;
     thread::spawn(move || {
-        listener
-            .incoming()
-            .for_each(|stream| drop(thread::spawn(|| serve(stream))))
+        listener.incoming().for_each(|stream| drop(thread::spawn(|| serve(stream))))
     });
 
-    let init = move || {
-        Ok(Connection(
-            BufReader::new(TcpStream::connect(address)?),
-            true,
-        ))
-    };
+    let init = move || Ok(Connection(BufReader::new(TcpStream::connect(address)?), true));
     let pool = LazyPool::<_, io::Error>::new(2, init, |used| used.1)?;
     let answers = AtomicUsize::new(0);
     thread::scope(|scope| {
@@ -70,9 +63,6 @@ fn main() -> Result<(), Box<dyn Error>> {
             });
         }
     });
-    println!(
-        "{answers:?} answers by {} connections at most",
-        pool.status().items
-    );
+    println!("{answers:?} answers by {} connections at most", pool.status().items);
     Ok(())
 }

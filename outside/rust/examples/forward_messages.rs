@@ -11,10 +11,7 @@ type Message = LinearOwnedReusable<Vec<u8>>;
 fn write(number: usize, pool: &Arc<LinearObjectPool<Vec<u8>>>, sender: &mpsc::SyncSender<Message>) {
     for message in 0..MESSAGES {
         let mut buffer = pool.pull_owned();
-        assert!(
-            buffer.is_empty(),
-            "a message has something of an earlier one"
-        );
+        assert!(buffer.is_empty(), "a message has something of an earlier one");
         buffer.extend(format!("message {message} of writer {number}").bytes());
         sender.send(buffer).expect("somebody reads");
     }
@@ -43,12 +40,8 @@ fn forward(writers: usize, readers: usize) -> (usize, usize) {
             scope.spawn(move || write(number, &pool, &sender));
         }
         drop(sender);
-        let readers: Vec<_> = (0..readers)
-            .map(|_| scope.spawn(|| read(&receiver)))
-            .collect();
-        let told = readers
-            .into_iter()
-            .map(|reader| reader.join().expect("it ends"));
+        let readers: Vec<_> = (0..readers).map(|_| scope.spawn(|| read(&receiver))).collect();
+        let told = readers.into_iter().map(|reader| reader.join().expect("it ends"));
         told.fold((0, 0), |all, one| (all.0 + one.0, all.1 + one.1))
     })
 }

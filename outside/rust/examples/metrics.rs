@@ -55,16 +55,9 @@ fn main() -> Result<(), Box<dyn Error>> {
         }
     });
     let status = pool.status();
-    println!(
-        "{} were pulled, {} made",
-        metrics.pulled.load(Relaxed),
-        metrics.made.load(Relaxed)
-    );
+    println!("{} were pulled, {} made", metrics.pulled.load(Relaxed), metrics.made.load(Relaxed));
     assert_eq!(metrics.pulled.load(Relaxed), 80);
     assert_eq!(metrics.made.load(Relaxed), status.made);
-    assert_eq!(
-        (metrics.failed.load(Relaxed), status.in_use, status.waiting),
-        (0, 0, 0)
-    );
+    assert_eq!((metrics.failed.load(Relaxed), status.in_use, status.waiting), (0, 0, 0));
     Ok(())
 }

@@ -14,10 +14,7 @@ pub(crate) struct OnceBox<T> {
 
 impl<T> OnceBox<T> {
     pub(crate) const fn new() -> OnceBox<T> {
-        OnceBox {
-            set: AtomicPtr::new(ptr::null_mut()),
-            value: PhantomData,
-        }
+        OnceBox { set: AtomicPtr::new(ptr::null_mut()), value: PhantomData }
     }
 
     #[inline(always)]
@@ -32,9 +29,7 @@ impl<T> OnceBox<T> {
     pub(crate) fn set(&self, value: T) -> Option<&T> {
         atomics::before(Step::Sets);
         let made = Box::into_raw(boxed(value)?);
-        let result = self
-            .set
-            .compare_exchange(ptr::null_mut(), made, AcqRel, Acquire);
+        let result = self.set.compare_exchange(ptr::null_mut(), made, AcqRel, Acquire);
         if result.is_err() {
             // SAFETY: nobody else has it.
             drop(unsafe { Box::from_raw(made) });

@@ -21,12 +21,7 @@ impl Status {
     /// more may have been returned than pulled.
     pub(crate) fn new([items, made, in_use]: [usize; 3]) -> Status {
         let in_use = (in_use as isize).max(0) as usize;
-        Status {
-            items,
-            made,
-            in_use,
-            waiting: 0,
-        }
+        Status { items, made, in_use, waiting: 0 }
     }
 }
 

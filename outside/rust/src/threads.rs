@@ -115,10 +115,7 @@ unsafe impl<T: Send> Sync for Owned<T> {}
 
 impl<T> Owned<T> {
     pub(crate) fn new(number: &Number, value: T) -> Owned<T> {
-        Owned {
-            number: number.0,
-            value,
-        }
+        Owned { number: number.0, value }
     }
 
     /// Borrows the value, by its number.
@@ -164,9 +161,7 @@ pub(crate) fn pull_number() -> Option<usize> {
 ///
 /// It was pulled here, and is returned once.
 pub(crate) unsafe fn return_number(number: usize) {
-    let pool = (number / FIRST)
-        .checked_ilog2()
-        .map_or(0, |group| group as usize + 1);
+    let pool = (number / FIRST).checked_ilog2().map_or(0, |group| group as usize + 1);
     if let Some(numbers) = &mut *lock(pool) {
         #[allow(unused_unsafe)] // the call in Rust is safe
         // SAFETY: the caller says that it was pulled, and is returned once.

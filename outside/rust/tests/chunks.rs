@@ -46,9 +46,7 @@ fn an_item_is_made_only_where_all_that_were_made_are_held() {
 fn each_place_of_a_part_is_used() {
     let pool = LinearObjectPool::<u32>::new(|| 0, |_| ());
     let mut items = Vec::new();
-    for room in [
-        8, 24, 56, 120, 248, 504, 1_016, 1_528, 2_040, 2_552, 3_576, 4_600,
-    ] {
+    for room in [8, 24, 56, 120, 248, 504, 1_016, 1_528, 2_040, 2_552, 3_576, 4_600] {
         items.resize_with(room, || pool.pull());
         assert_eq!((pool.status().items, pool.status().made), (room, room));
     }
@@ -111,13 +109,9 @@ fn items_that_other_threads_return_all_come_back() {
     };
     thread::scope(|scope| {
         let run = &run;
-        let threads: Vec<_> = (0..THREADS)
-            .map(|thread| scope.spawn(move || run(thread)))
-            .collect();
+        let threads: Vec<_> = (0..THREADS).map(|thread| scope.spawn(move || run(thread))).collect();
         // From then on a thread keeps nothing.
-        threads
-            .into_iter()
-            .for_each(|thread| thread.join().expect("it ends"));
+        threads.into_iter().for_each(|thread| thread.join().expect("it ends"));
     });
     drop(slots);
     let (made, most) = (calls.load(SeqCst), 20 + THREADS * KEPT);
@@ -140,11 +134,7 @@ fn items_of_each_part_that_another_thread_returned_are_found() {
         let returned: Vec<_> = items.drain(part.clone()).collect();
         in_a_thread(move || drop(returned));
         let _again: Vec<_> = part.map(|_| pool.pull()).collect();
-        assert_eq!(
-            calls.load(SeqCst),
-            96,
-            "one was made though others were free"
-        );
+        assert_eq!(calls.load(SeqCst), 96, "one was made though others were free");
     }
 }
 
@@ -155,9 +145,7 @@ fn items_of_another_threads_part_are_found() {
         let threads: Vec<_> = (0..4)
             .map(|_| scope.spawn(|| (0..100).map(|_| pool.pull()).collect::<Vec<_>>()))
             .collect();
-        let items = threads
-            .into_iter()
-            .map(|thread| thread.join().expect("it ends"));
+        let items = threads.into_iter().map(|thread| thread.join().expect("it ends"));
         drop(items.collect::<Vec<_>>());
     });
     let made = calls.load(SeqCst);
@@ -216,11 +204,7 @@ fn an_item_whose_making_panics_is_made_at_a_later_pull() {
     let right: Vec<usize> = (0..70).filter(|call| call % 10 != 5).collect();
     assert_eq!(made, right);
     drop(items);
-    assert_eq!(
-        *resets.lock().expect("no panic"),
-        right,
-        "what was never made isn't reset"
-    );
+    assert_eq!(*resets.lock().expect("no panic"), right, "what was never made isn't reset");
 }
 
 /// What is free is pulled before an item is made at a place whose `init` panicked.
@@ -292,11 +276,7 @@ type Item<'p> = LinearReusable<'p, Arc<()>>;
 fn a_thread_keeps_eight_of_what_it_returns() {
     for count in (0..30).chain([1_000]) {
         let (pool, _one, calls) = counting_pool();
-        let kept = kept(
-            count,
-            |_, items| items.into_iter().take(0).collect(),
-            (&pool, &calls),
-        );
+        let kept = kept(count, |_, items| items.into_iter().take(0).collect(), (&pool, &calls));
         assert_eq!(kept, count.min(KEPT), "of {count}");
     }
 }
@@ -306,18 +286,11 @@ fn a_thread_keeps_eight_of_what_it_returns() {
 fn a_thread_that_only_returns_returns_eight_at_a_time() {
     let kept_of = |count| {
         let (pool, _one, calls) = counting_pool();
-        kept(
-            count,
-            |_, items| items.into_iter().take(0).collect(),
-            (&pool, &calls),
-        )
+        kept(count, |_, items| items.into_iter().take(0).collect(), (&pool, &calls))
     };
     let all = |counts: Range<usize>| counts.map(kept_of).collect::<Vec<_>>();
     assert_eq!(all(1_025..1_031), [KEPT; 6]);
-    assert_eq!(
-        all(1_040..1_048).into_iter().collect::<HashSet<_>>(),
-        (1..=KEPT).collect()
-    );
+    assert_eq!(all(1_040..1_048).into_iter().collect::<HashSet<_>>(), (1..=KEPT).collect());
 }
 
 /// It counts anew once it has pulled one that it didn't keep.

@@ -157,19 +157,9 @@ macro_rules! keeping_pool {
     };
 }
 
-keeping_pool!(
-    linear,
-    LinearObjectPool,
-    LinearReusable,
-    LinearOwnedReusable
-);
+keeping_pool!(linear, LinearObjectPool, LinearReusable, LinearOwnedReusable);
 keeping_pool!(mutex, MutexObjectPool, MutexReusable, MutexOwnedReusable);
-keeping_pool!(
-    spin_lock,
-    SpinLockObjectPool,
-    SpinLockReusable,
-    SpinLockOwnedReusable
-);
+keeping_pool!(spin_lock, SpinLockObjectPool, SpinLockReusable, SpinLockOwnedReusable);
 
 fn zeros() -> LinearObjectPool<u32> {
     LinearObjectPool::<u32>::new(Default::default, |number| *number = 0)
@@ -212,10 +202,7 @@ fn a_thousand_at_a_time_are_a_thousand_places_twice() {
     let pool = zeros();
     let hold = || {
         let items: Vec<_> = (0..1_000).map(|_| pool.pull()).collect();
-        items
-            .iter()
-            .map(|item| address(item))
-            .collect::<HashSet<_>>()
+        items.iter().map(|item| address(item)).collect::<HashSet<_>>()
     };
     let places = hold();
     assert_eq!(places.len(), 1_000);
@@ -236,18 +223,12 @@ fn a_value_from_elsewhere_goes_to_its_stack_pool() {
     let pool = Arc::new(MutexObjectPool::<u32>::new(|| 0, |number| *number += 1));
     drop(MutexReusable::new(&pool, ManuallyDrop::new(5)));
     assert_eq!(*pool.pull(), 6);
-    drop(MutexOwnedReusable::new(
-        Arc::clone(&pool),
-        ManuallyDrop::new(8),
-    ));
+    drop(MutexOwnedReusable::new(Arc::clone(&pool), ManuallyDrop::new(8)));
     assert_eq!(*pool.pull(), 9);
     let pool = Arc::new(SpinLockObjectPool::<u32>::new(|| 0, |number| *number += 1));
     drop(SpinLockReusable::new(&pool, ManuallyDrop::new(5)));
     assert_eq!(*pool.pull(), 6);
-    drop(SpinLockOwnedReusable::new(
-        Arc::clone(&pool),
-        ManuallyDrop::new(8),
-    ));
+    drop(SpinLockOwnedReusable::new(Arc::clone(&pool), ManuallyDrop::new(8)));
     assert_eq!(*pool.pull(), 9);
 }
 
@@ -259,10 +240,7 @@ fn the_item_that_came_back_last_is_pulled_first_from_a_stack_pool() {
     drop(first);
     drop(second);
     let items = [pool.pull(), pool.pull(), pool.pull()];
-    assert_eq!(
-        items.iter().map(|item| **item).collect::<Vec<_>>(),
-        [2, 1, 0]
-    );
+    assert_eq!(items.iter().map(|item| **item).collect::<Vec<_>>(), [2, 1, 0]);
 }
 
 #[test]
@@ -392,10 +370,8 @@ fn a_guard_of_a_longer_borrow_is_put_beside_others() {
     let items = vec![pull(), linear_is_covariant(pull(), &())];
     let batch = Batch { items, name: &name };
     assert_eq!((batch.items.len(), batch.name), (2, "a name"));
-    let (mutex, spin_lock) = (
-        MutexObjectPool::new(|| 0, |_| ()),
-        SpinLockObjectPool::new(|| 0, |_| ()),
-    );
+    let (mutex, spin_lock) =
+        (MutexObjectPool::new(|| 0, |_| ()), SpinLockObjectPool::new(|| 0, |_| ()));
     assert_eq!(*mutex_is_covariant(mutex.pull(), &()), 0);
     assert_eq!(*spin_lock_is_covariant(spin_lock.pull(), &()), 0);
 }
@@ -423,16 +399,8 @@ fn pools_and_guards_are_sent_shared_and_unpinned() {
     macro_rules! all {
         ($($type:ty),*) => { $( is_sent::<$type>(); is_shared::<$type>(); )* };
     }
-    all!(
-        LinearObjectPool<u32>,
-        MutexObjectPool<u32>,
-        SpinLockObjectPool<u32>
-    );
-    all!(
-        LinearReusable<'static, u32>,
-        LinearOwnedReusable<u32>,
-        NoneReusable<u32>
-    );
+    all!(LinearObjectPool<u32>, MutexObjectPool<u32>, SpinLockObjectPool<u32>);
+    all!(LinearReusable<'static, u32>, LinearOwnedReusable<u32>, NoneReusable<u32>);
     all!(MutexReusable<'static, u32>, MutexOwnedReusable<u32>);
     all!(SpinLockReusable<'static, u32>, SpinLockOwnedReusable<u32>);
 }

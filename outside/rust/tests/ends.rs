@@ -53,10 +53,7 @@ fn a_thread_keeps_places_after_a_panic_too() {
         let by_thread = made.load(SeqCst);
         drop(pool.pull());
         may_end.wait();
-        assert_eq!(
-            by_thread, 1,
-            "the thread didn't keep what the panic returned"
-        );
+        assert_eq!(by_thread, 1, "the thread didn't keep what the panic returned");
     });
     assert_eq!(made.load(SeqCst), 2, "the thread kept nothing");
 }
@@ -76,8 +73,7 @@ fn a_thread_that_was_refused_once_takes_what_others_keep_only_if_nothing_else_is
             for () in told {
                 held.push(pool.pull());
                 let number = held.last().and_then(|item| item.as_ref());
-                tell.send(number.map(|item| item.number()))
-                    .expect("somebody waits");
+                tell.send(number.map(|item| item.number())).expect("somebody waits");
             }
         });
         let other_pulls = || {

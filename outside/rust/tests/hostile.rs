@@ -86,9 +86,7 @@ fn threads_come_and_end_with_items_in_channels_and_locals() {
                     scope.spawn(move || churn(thread, &sender, receiver))
                 })
                 .collect();
-            threads
-                .into_iter()
-                .for_each(|thread| thread.join().expect("it ends"));
+            threads.into_iter().for_each(|thread| thread.join().expect("it ends"));
         });
     }
     drop((sender, receiver));
@@ -99,10 +97,7 @@ fn threads_come_and_end_with_items_in_channels_and_locals() {
 
 /// An item that may hold another one.
 #[derive(Default)]
-struct Node(
-    Option<OwnedReusable<Node>>,
-    Option<LinearOwnedReusable<Node>>,
-);
+struct Node(Option<OwnedReusable<Node>>, Option<LinearOwnedReusable<Node>>);
 
 impl Node {
     fn reset(&mut self) {
@@ -113,10 +108,8 @@ impl Node {
 #[test]
 fn a_reset_drops_items_of_its_own_pool() {
     let fixed = Pool::new(1_000, Node::default, Node::reset).expect("there is memory");
-    let (fixed, grows) = (
-        Arc::new(fixed),
-        Arc::new(LinearObjectPool::new(Node::default, Node::reset)),
-    );
+    let (fixed, grows) =
+        (Arc::new(fixed), Arc::new(LinearObjectPool::new(Node::default, Node::reset)));
     for _ in 0..20 {
         let mut last = Node::default();
         for _ in 0..300 {
@@ -128,10 +121,7 @@ fn a_reset_drops_items_of_its_own_pool() {
         }
         thread::spawn(move || drop(last)).join().expect("it ends");
     }
-    assert_eq!(
-        iter::from_fn(|| fixed.pull().map(mem::forget)).count(),
-        1_000
-    );
+    assert_eq!(iter::from_fn(|| fixed.pull().map(mem::forget)).count(), 1_000);
 }
 
 /// A reset of a stack pool runs without its lock, so it may drop an item of that pool.
@@ -162,10 +152,7 @@ fn a_pool_that_keeps_nothing_calls_init_once_a_pull() {
 
 /// The last owners of two pools.
 #[allow(dead_code)]
-struct Last(
-    Option<OwnedReusable<Vec<u8>>>,
-    Option<LinearOwnedReusable<Vec<u8>>>,
-);
+struct Last(Option<OwnedReusable<Vec<u8>>>, Option<LinearOwnedReusable<Vec<u8>>>);
 
 thread_local! {
     static LASTS: RefCell<Vec<Last>> = const { RefCell::new(Vec::new()) };
@@ -186,12 +173,8 @@ fn the_last_owner_of_a_pool_is_in_a_thread_local() {
         LASTS.with_borrow_mut(|lasts| lasts.push(Last(one, Some(other))));
     };
     for _ in 0..10 {
-        let threads: Vec<_> = (0..80)
-            .map(|thread| thread::spawn(move || run(thread)))
-            .collect();
-        threads
-            .into_iter()
-            .for_each(|thread| thread.join().expect("it ends"));
+        let threads: Vec<_> = (0..80).map(|thread| thread::spawn(move || run(thread))).collect();
+        threads.into_iter().for_each(|thread| thread.join().expect("it ends"));
     }
 }
 
@@ -273,11 +256,7 @@ fn an_init_that_panics_leaves_nothing_behind() {
     let grows = LinearObjectPool::new(|| Counted::new(&COUNT), |_| ());
     (0..100).for_each(|_| mem::forget(grows.pull()));
     drop(grows);
-    assert_eq!(
-        COUNT.load(SeqCst),
-        0,
-        "forgotten items are dropped with their pool"
-    );
+    assert_eq!(COUNT.load(SeqCst), 0, "forgotten items are dropped with their pool");
 }
 
 /// A thread that only pulls takes places ahead. Some items are made at places whose `init` panicked
@@ -320,10 +299,8 @@ fn an_init_may_return_items_while_places_are_pulled_ahead() {
 fn threads_share_a_guard_and_another_one_drops_it() {
     let fixed = Pool::new(4, || vec![0; 8], |list: &mut Vec<usize>| list.fill(0));
     let fixed = Arc::new(fixed.expect("there is memory"));
-    let grows = Arc::new(LinearObjectPool::new(
-        || vec![0; 8],
-        |list: &mut Vec<usize>| list.fill(0),
-    ));
+    let grows =
+        Arc::new(LinearObjectPool::new(|| vec![0; 8], |list: &mut Vec<usize>| list.fill(0)));
     for round in 0..100 {
         let (mut one, mut other) = (fixed.pull_owned().expect("one is free"), grows.pull_owned());
         one.fill(round);
@@ -333,18 +310,12 @@ fn threads_share_a_guard_and_another_one_drops_it() {
             let (both, all_read) = (Arc::clone(&both), Arc::clone(&all_read));
             thread::spawn(move || {
                 all_read.wait();
-                assert!(both
-                    .0
-                    .iter()
-                    .chain(both.1.iter())
-                    .all(|number| *number == round));
+                assert!(both.0.iter().chain(both.1.iter()).all(|number| *number == round));
             })
         };
         let threads = [(); 4].map(|()| read());
         drop(both);
-        threads
-            .into_iter()
-            .for_each(|thread| thread.join().expect("it ends"));
+        threads.into_iter().for_each(|thread| thread.join().expect("it ends"));
     }
 }
 
@@ -372,8 +343,5 @@ fn three_hundred_threads_hold_few_items() {
     });
     let made = made.load(SeqCst);
     assert!(made <= 2 * THREADS, "{made} items");
-    assert_eq!(
-        iter::from_fn(|| fixed.pull().map(mem::forget)).count(),
-        THREADS
-    );
+    assert_eq!(iter::from_fn(|| fixed.pull().map(mem::forget)).count(), THREADS);
 }

@@ -30,10 +30,7 @@ struct Chance(u64);
 
 impl Chance {
     fn below(&mut self, bound: u64) -> u64 {
-        self.0 = self
-            .0
-            .wrapping_mul(6_364_136_223_846_793_005)
-            .wrapping_add(1);
+        self.0 = self.0.wrapping_mul(6_364_136_223_846_793_005).wrapping_add(1);
         (self.0 >> 33) % bound
     }
 }
@@ -118,10 +115,7 @@ fn tasks_are_served_in_their_order() {
 fn a_task_that_is_polled_again_keeps_its_turn() {
     let pool = numbers(1);
     let item = pool.pull();
-    let (mut first, mut second) = (
-        ByHand::new(pool.pull_async()),
-        ByHand::new(pool.pull_async()),
-    );
+    let (mut first, mut second) = (ByHand::new(pool.pull_async()), ByHand::new(pool.pull_async()));
     let before = Arc::clone(&first.woken);
     assert!(first.poll().is_pending() && second.poll().is_pending());
     first.woken = Arc::default();
@@ -178,10 +172,7 @@ fn a_closed_pool_wakes_tasks_and_threads() {
         assert!(tasks.iter().all(ByHand::is_woken));
         let mut ends = tasks.iter_mut().map(|task| task.ready().err());
         assert!(ends.all(|error| error == Some(PullError::Closed)));
-        assert_eq!(
-            ByHand::new(pool.pull_async()).ready().err(),
-            Some(PullError::Closed)
-        );
+        assert_eq!(ByHand::new(pool.pull_async()).ready().err(), Some(PullError::Closed));
         drop(item);
         is_free(&pool);
     }
@@ -190,9 +181,7 @@ fn a_closed_pool_wakes_tasks_and_threads() {
 #[test]
 fn an_owned_pull_keeps_its_pool() {
     let pool = Arc::new(numbers(1));
-    let item = ByHand::new(pool.pull_owned_async())
-        .ready()
-        .expect("it is free");
+    let item = ByHand::new(pool.pull_owned_async()).ready().expect("it is free");
     let made = async { Ok(7) };
     let mut waits = ByHand::new(pool.pull_owned_async_with(made));
     assert!(waits.poll().is_pending());
@@ -242,9 +231,7 @@ fn an_async_initializer_that_fails_or_is_dropped_leaves_its_place_to_the_next() 
             }
             drop(one);
             assert!(next.is_woken());
-            next.ready()
-                .expect("its own initializer doesn't fail")
-                .discard();
+            next.ready().expect("its own initializer doesn't fail").discard();
             is_free(&pool);
         }
     }
@@ -295,10 +282,7 @@ impl Wake for WakesOne {
 fn run(tasks: Vec<Task<'_>>, threads: usize) -> usize {
     let (ready, left) = (Arc::<Ready>::default(), AtomicUsize::new(tasks.len()));
     (0..tasks.len()).for_each(|task| ready.push(task));
-    let tasks: Vec<_> = tasks
-        .into_iter()
-        .map(|task| Mutex::new(Some(task)))
-        .collect();
+    let tasks: Vec<_> = tasks.into_iter().map(|task| Mutex::new(Some(task))).collect();
     let polls = || {
         while let Some(task) = ready.pop(&left) {
             let mut slot = tasks[task].lock().expect("no panic");
@@ -358,10 +342,7 @@ async fn turns(pool: &Numbers, mine: u32, in_use: &AtomicUsize) {
             assert!(pulled.is_none_or(|pulled| pulled.is_ok()));
             continue;
         };
-        assert!(
-            in_use.fetch_add(1, SeqCst) < CONNECTIONS,
-            "too many are in use"
-        );
+        assert!(in_use.fetch_add(1, SeqCst) < CONNECTIONS, "too many are in use");
         *item = mine;
         gives_way().await;
         assert_eq!(*item, mine, "another task has it too");
@@ -405,10 +386,7 @@ fn threads_and_tasks_that_wait_for_the_same_items_lose_none() {
         let pulls = || {
             for turn in 0..300 {
                 let item = pool.pull_timeout(LOST).expect("it was lost");
-                assert!(
-                    in_use.fetch_add(1, SeqCst) < CONNECTIONS,
-                    "too many are in use"
-                );
+                assert!(in_use.fetch_add(1, SeqCst) < CONNECTIONS, "too many are in use");
                 thread::yield_now();
                 in_use.fetch_sub(1, SeqCst);
                 match turn % 5 {
@@ -446,11 +424,7 @@ impl Wake for Uses {
 fn wakes_one_that_uses_its_pool(pool: Numbers) {
     let (pool, times) = (Arc::new(pool), AtomicUsize::new(0));
     let item = pool.pull_owned();
-    let uses = Arc::new(Uses {
-        pool: Arc::clone(&pool),
-        other: Mutex::new(None),
-        times,
-    });
+    let uses = Arc::new(Uses { pool: Arc::clone(&pool), other: Mutex::new(None), times });
     let waker = Waker::from(Arc::clone(&uses));
     let mut context = Context::from_waker(&waker);
     let mut waits = Box::pin(pool.pull_owned_async());

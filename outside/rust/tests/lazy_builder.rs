@@ -44,12 +44,7 @@ fn panics(call: impl FnOnce()) -> bool {
 
 #[test]
 fn a_pool_of_nothing_or_past_all_memory_is_refused() {
-    let refused = |items| {
-        LazyPool::builder(items)
-            .init(|| Ok::<_, ()>(0))
-            .build()
-            .err()
-    };
+    let refused = |items| LazyPool::builder(items).init(|| Ok::<_, ()>(0)).build().err();
     assert_eq!(refused(0), Some(NewError::NoItems));
     assert_eq!(refused(usize::MAX), Some(NewError::Memory));
 }
@@ -84,10 +79,7 @@ impl Manager for Counting {
 #[test]
 fn a_manager_makes_resets_and_checks() {
     let (made, calls) = (AtomicUsize::new(0), Arc::new(AtomicUsize::new(0)));
-    let manager = Counting {
-        made,
-        calls: Arc::clone(&calls),
-    };
+    let manager = Counting { made, calls: Arc::clone(&calls) };
     let pool = LazyPool::builder(3).manager(manager).build();
     let pool = pool.expect("there is memory");
     let mut item = pool.pull().expect("it is made");
@@ -116,10 +108,7 @@ impl Manager for Plain {
 
 #[test]
 fn a_manager_keeps_all_if_it_says_nothing_else() {
-    let pool = LazyPool::builder(1)
-        .manager(Plain)
-        .build()
-        .expect("there is memory");
+    let pool = LazyPool::builder(1).manager(Plain).build().expect("there is memory");
     pool.pull().expect("it is made").push('!');
     assert_eq!(pool.pull().as_deref().map(String::as_str), Ok("made!"));
 }
@@ -158,10 +147,7 @@ fn an_item_that_is_too_old_is_dropped_when_it_is_pulled_or_comes_back() {
     assert_eq!(pool.fill(1), Ok(()));
     assert_eq!(counts(&pool), (1, 0));
     let is_young = turn(&pool) == 1 && counts(&pool) == (1, 0);
-    assert!(
-        is_young || begun.elapsed() >= SOON,
-        "it is as old as one before"
-    );
+    assert!(is_young || begun.elapsed() >= SOON, "it is as old as one before");
     thread::sleep(SOON);
     assert_eq!(counts(&pool).1, 0);
     assert!(turn(&pool) >= 2);
@@ -173,13 +159,8 @@ fn an_item_that_is_too_old_is_dropped_when_it_is_pulled_or_comes_back() {
 /// An item that is too old is dropped without a reset.
 #[test]
 fn an_item_that_is_too_old_is_not_reset() {
-    let pool = LazyPool::builder(1)
-        .init(counter())
-        .reset(|_| panic!("it isn't reset"));
-    let pool = pool
-        .life_time(Duration::ZERO)
-        .build()
-        .expect("there is memory");
+    let pool = LazyPool::builder(1).init(counter()).reset(|_| panic!("it isn't reset"));
+    let pool = pool.life_time(Duration::ZERO).build().expect("there is memory");
     assert_eq!((turn(&pool), counts(&pool)), (0, (0, 0)));
 }
 
@@ -236,10 +217,7 @@ fn clear_idle_drops_what_was_free_for_so_long_and_leaves_the_least() {
     drop(item);
     assert_eq!(pool.clear_idle(HOUR), 0);
     assert_eq!((pool.clear_idle(SOON), counts(&pool)), (15, (5, 0)));
-    assert_eq!(
-        (pool.clear_idle(Duration::ZERO), counts(&pool)),
-        (0, (5, 0))
-    );
+    assert_eq!((pool.clear_idle(Duration::ZERO), counts(&pool)), (0, (5, 0)));
     pool.clear();
     assert_eq!((pool.fill_least(), counts(&pool)), (Ok(()), (5, 0)));
 }
@@ -257,11 +235,7 @@ fn it_is_noted_when_each_item_came_back() {
     drop(other);
     let dropped = pool.retain(|number, idle| {
         let is_late = *number == late;
-        assert!(if is_late {
-            idle <= begun.elapsed()
-        } else {
-            idle >= SOON
-        });
+        assert!(if is_late { idle <= begun.elapsed() } else { idle >= SOON });
         is_late
     });
     assert_eq!((dropped, counts(&pool)), (1, (1, 0)));

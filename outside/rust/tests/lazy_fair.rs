@@ -111,10 +111,7 @@ fn who_gives_up_leaves_the_queue() {
     });
     is_free(&pool);
     let _item = pool.pull().expect("it is free");
-    assert_eq!(
-        pool.pull_timeout(Duration::ZERO).err(),
-        Some(PullError::TimedOut)
-    );
+    assert_eq!(pool.pull_timeout(Duration::ZERO).err(), Some(PullError::TimedOut));
 }
 
 /// Some give up all the time, just as places are handed to them; the others get theirs.
@@ -130,9 +127,7 @@ fn a_place_that_is_handed_to_one_that_gives_up_goes_on() {
         (0..3).for_each(|_| drop(scope.spawn(gives_up)));
         let waits = || (0..500).for_each(|_| drop(pool.pull_timeout(LOST).expect("it was lost")));
         let waiters = [(); 3].map(|()| scope.spawn(waits));
-        waiters
-            .into_iter()
-            .for_each(|waiter| waiter.join().expect("it ends"));
+        waiters.into_iter().for_each(|waiter| waiter.join().expect("it ends"));
         ends.store(true, SeqCst);
     });
     is_free(&pool);

@@ -98,11 +98,7 @@ impl State {
         };
         let holder = thread(Kind::Waiter, returns(fault));
         let mut threads = vec![holder; places];
-        let comers = [
-            (Kind::Waiter, waiters),
-            (Kind::Timed, timed),
-            (Kind::Passer, passers),
-        ];
+        let comers = [(Kind::Waiter, waiters), (Kind::Timed, timed), (Kind::Passer, passers)];
         for (kind, count) in comers {
             threads.extend((0..count).map(|_| thread(kind, Comes)));
         }
@@ -261,7 +257,8 @@ impl State {
                 let other = state.threads[me].wakes;
                 let wakes = fault != Fault::HandedOneIsNotWoken && other != me;
                 state.threads[other].token |= wakes && state.threads[other].step != Ended;
-                (state.threads[me].wakes, state.threads[me].step) = (0, state.has_served(me, fault));
+                (state.threads[me].wakes, state.threads[me].step) =
+                    (0, state.has_served(me, fault));
             }),
             step => unreachable!("{step:?}"),
         }
@@ -333,13 +330,7 @@ fn places_go_to_those_that_wait_in_their_order() {
 #[test]
 #[ignore = "some seconds with optimization"]
 fn places_go_to_those_that_wait_in_their_order_in_larger_cases() {
-    none_is_bad(&[
-        (1, [2, 1, 0]),
-        (1, [2, 0, 1]),
-        (2, [1, 1, 0]),
-        (1, [3, 0, 0]),
-        (1, [1, 1, 1]),
-    ]);
+    none_is_bad(&[(1, [2, 1, 0]), (1, [2, 0, 1]), (2, [1, 1, 0]), (1, [3, 0, 0]), (1, [1, 1, 1])]);
 }
 
 #[test]

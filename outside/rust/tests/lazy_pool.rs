@@ -24,9 +24,7 @@ fn counts<T, E>(pool: &LazyPool<T, E>) -> (usize, usize) {
 
 /// Each of so many places can be had, and no more of them.
 fn all_can_be_had<T, E: std::fmt::Debug>(pool: &LazyPool<T, E>, items: usize) {
-    let held: Vec<_> = (0..items)
-        .map(|_| pool.pull().expect("a place is free"))
-        .collect();
+    let held: Vec<_> = (0..items).map(|_| pool.pull().expect("a place is free")).collect();
     assert!(matches!(pool.pull(), Err(PullError::AllInUse)));
     assert_eq!(counts(pool), (items, items));
     drop(held);
@@ -52,22 +50,16 @@ fn nothing_is_made_before_it_is_needed() {
 #[test]
 fn a_made_item_is_preferred_wherever_it_lies() {
     let pool = numbered(200);
-    let mut held: Vec<_> = (0..200)
-        .map(|_| Some(pool.pull().expect("one is free")))
-        .collect();
+    let mut held: Vec<_> = (0..200).map(|_| Some(pool.pull().expect("one is free"))).collect();
     for kept in [0, 63, 64, 199] {
         held.iter_mut().flatten().for_each(|_| ());
         let others = held.iter_mut().enumerate().filter(|(at, _)| *at != kept);
-        others
-            .filter_map(|(_, item)| item.take())
-            .for_each(LazyReusable::discard);
+        others.filter_map(|(_, item)| item.take()).for_each(LazyReusable::discard);
         assert_eq!(counts(&pool), (1, 1));
         drop(held[kept].take());
         let made = pool.pull().expect("it is free");
         assert_eq!(pool.status().made, 1);
-        held = iter::once(Some(made))
-            .chain((1..200).map(|_| pool.pull().ok()))
-            .collect();
+        held = iter::once(Some(made)).chain((1..200).map(|_| pool.pull().ok())).collect();
         assert!(held.iter().all(Option::is_some));
     }
 }
@@ -198,24 +190,15 @@ fn counted(
     let init = move || {
         count.fetch_add(1, SeqCst);
         let there_are = Arc::clone(&count);
-        Ok(Counted {
-            there_are,
-            panics: false,
-        })
+        Ok(Counted { there_are, panics: false })
     };
-    (
-        LazyPool::new(items, init, reset).expect("there is memory"),
-        there_are,
-    )
+    (LazyPool::new(items, init, reset).expect("there is memory"), there_are)
 }
 
 #[test]
 fn a_rejected_item_is_dropped_and_its_place_is_empty() {
     let (pool, there_are) = counted(2, |item| !item.panics);
-    let (mut one, _other) = (
-        pool.pull().expect("one is free"),
-        pool.pull().expect("one is free"),
-    );
+    let (mut one, _other) = (pool.pull().expect("one is free"), pool.pull().expect("one is free"));
     one.panics = true;
     assert!(panics(|| drop(one)), "the item's drop");
     assert_eq!((there_are.load(SeqCst), counts(&pool)), (1, (1, 1)));
@@ -252,9 +235,7 @@ fn a_discarded_item_is_dropped_without_reset() {
 #[test]
 fn a_detached_item_lives_on_and_its_place_is_empty() {
     let (pool, there_are) = counted(1, |_| panic!("it isn't reset"));
-    let detached: Vec<_> = (0..5)
-        .map(|_| pool.pull().expect("it is free").detach())
-        .collect();
+    let detached: Vec<_> = (0..5).map(|_| pool.pull().expect("it is free").detach()).collect();
     assert_eq!((there_are.load(SeqCst), counts(&pool)), (5, (0, 0)));
     drop(pool);
     assert_eq!(detached.len(), 5);
@@ -367,9 +348,7 @@ fn a_closed_pool_gives_nothing_and_drops_what_comes_back() {
         pool.pull_owned_timeout(limit).err(),
         pool.fill(40).err(),
     ];
-    assert!(refused
-        .iter()
-        .all(|error| *error == Some(PullError::Closed)));
+    assert!(refused.iter().all(|error| *error == Some(PullError::Closed)));
     assert!(pool.try_pull().is_none() && pool.try_pull_owned().is_none());
     drop(held);
     assert_eq!((there_are.load(SeqCst), counts(&pool)), (1, (1, 1)));
@@ -441,10 +420,7 @@ fn an_owned_item_keeps_its_pool_and_a_refused_pull_none() {
     assert_eq!(Arc::strong_count(&pool), 4);
     assert_eq!(pool.pull_owned().err(), Some(PullError::AllInUse));
     assert!(pool.try_pull_owned().is_none());
-    assert_eq!(
-        pool.pull_owned_timeout(Duration::ZERO).err(),
-        Some(PullError::TimedOut)
-    );
+    assert_eq!(pool.pull_owned_timeout(Duration::ZERO).err(), Some(PullError::TimedOut));
     assert_eq!(Arc::strong_count(&pool), 4);
     for item in items {
         *item.expect("it was free") = 7;
@@ -459,14 +435,8 @@ fn a_limit_of_time_is_over_all() {
     let pool = numbered(1);
     let begun = Instant::now();
     let _item = pool.pull();
-    assert_eq!(
-        pool.pull_timeout(Duration::from_millis(30)).err(),
-        Some(PullError::TimedOut)
-    );
-    assert_eq!(
-        pool.pull_timeout(Duration::ZERO).err(),
-        Some(PullError::TimedOut)
-    );
+    assert_eq!(pool.pull_timeout(Duration::from_millis(30)).err(), Some(PullError::TimedOut));
+    assert_eq!(pool.pull_timeout(Duration::ZERO).err(), Some(PullError::TimedOut));
     let took = begun.elapsed();
     assert!(Duration::from_millis(30) <= took && took < Duration::from_secs(10));
     assert_eq!(pool.status().waiting, 0);
@@ -478,20 +448,11 @@ fn no_init_begins_after_the_limit() {
         std::thread::sleep(Duration::from_millis(20));
         false
     });
-    assert_eq!(
-        pool.pull_timeout(Duration::ZERO).err(),
-        Some(PullError::TimedOut)
-    );
+    assert_eq!(pool.pull_timeout(Duration::ZERO).err(), Some(PullError::TimedOut));
     assert_eq!(counts(&pool), (0, 0));
-    assert_eq!(
-        pool.pull_timeout(Duration::from_secs(60)).as_deref(),
-        Ok(&0)
-    );
+    assert_eq!(pool.pull_timeout(Duration::from_secs(60)).as_deref(), Ok(&0));
     // The check takes longer than there is time.
-    assert_eq!(
-        pool.pull_timeout(Duration::from_millis(5)).err(),
-        Some(PullError::TimedOut)
-    );
+    assert_eq!(pool.pull_timeout(Duration::from_millis(5)).err(), Some(PullError::TimedOut));
     assert_eq!(counts(&pool), (0, 0));
     assert_eq!(pool.pull_timeout(Duration::MAX).as_deref(), Ok(&1));
 }

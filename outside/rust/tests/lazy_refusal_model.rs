@@ -128,11 +128,7 @@ impl State {
                     Fault::ComingIsNotCounted => self.seen.0 == 0 && self.count == 0,
                     _ => self.seen.0 == 0 && self.seen == self.now(),
                 };
-                goes(if is_refused {
-                    Pull::Refused
-                } else {
-                    Pull::Begins
-                })
+                goes(if is_refused { Pull::Refused } else { Pull::Begins })
             }
             Pull::Got | Pull::Refused => vec![],
         }
@@ -156,17 +152,12 @@ impl State {
             User::Idle if turns == 0 => vec![],
             User::Idle => {
                 let made = places.clone().filter(|&at| self.made[at]);
-                let pulls = made.map(|at| {
-                    with(User::HasItem(at), turns - 1, &|state| {
-                        state.made[at] = false
-                    })
-                });
+                let pulls = made
+                    .map(|at| with(User::HasItem(at), turns - 1, &|state| state.made[at] = false));
                 let late = fault == Fault::CountedOffLate;
                 let empty = places.filter(|&at| late && self.empty[at]);
                 let has = empty.map(|at| {
-                    with(User::Uncounted(at), turns - 1, &|state| {
-                        state.empty[at] = false
-                    })
+                    with(User::Uncounted(at), turns - 1, &|state| state.empty[at] = false)
                 });
                 let counts = (!late && self.count > 0)
                     .then(|| with(User::Counted, turns - 1, &|state| state.count -= 1));
@@ -186,9 +177,9 @@ impl State {
             User::Makes(at) if fault == Fault::CountedBeforeItIsFree => {
                 vec![with(User::Halfway(at), turns, &put)]
             }
-            User::Makes(at) => vec![with(User::Halfway(at), turns, &|state| {
-                state.empty[at] = true
-            })],
+            User::Makes(at) => {
+                vec![with(User::Halfway(at), turns, &|state| state.empty[at] = true)]
+            }
             User::Halfway(at) if fault == Fault::CountedBeforeItIsFree => {
                 vec![with(User::Idle, turns, &|state| state.empty[at] = true)]
             }

@@ -93,9 +93,7 @@ fn who_waits_gets_the_place_of_a_fill_that_fails_or_succeeds() {
             false => Ok(Item(None)),
         };
         let pool = LazyPool::new(1, init, |_| true).expect("there is memory");
-        gets_the_place(&trap, &pool, |pool| {
-            assert_eq!(pool.fill(1).is_err(), fails)
-        });
+        gets_the_place(&trap, &pool, |pool| assert_eq!(pool.fill(1).is_err(), fails));
     }
 }
 
@@ -183,10 +181,7 @@ fn a_waiter_whose_init_fails_wakes_the_next() {
             item.discard();
             waiters.map(|waiter| waiter.join().expect("it caught its panic"))
         });
-        assert_eq!(
-            got.iter().filter(|got| matches!(got, Ok(Ok(())))).count(),
-            1
-        );
+        assert_eq!(got.iter().filter(|got| matches!(got, Ok(Ok(())))).count(), 1);
         let failed = |got: &&_| match got {
             Ok(Err(PullError::Init("on purpose"))) => !panics,
             Err(_) => panics,
@@ -211,9 +206,7 @@ fn a_closed_pool_wakes_all_who_wait() {
         let waiters: Vec<_> = (0..8).map(|t| scope.spawn(move || waits(t))).collect();
         until_asleep(&pool, 8);
         pool.close();
-        let got = waiters
-            .into_iter()
-            .map(|waiter| waiter.join().expect("it ends"));
+        let got = waiters.into_iter().map(|waiter| waiter.join().expect("it ends"));
         got.collect::<Vec<_>>()
     });
     assert_eq!(got, [Err(PullError::Closed); 8]);
@@ -235,9 +228,7 @@ fn what_comes_back_to_a_pool_that_is_closed_just_then_is_dropped() {
             meet.wait();
             thread::yield_now();
             pool.close();
-            threads
-                .into_iter()
-                .for_each(|thread| thread.join().expect("it ends"));
+            threads.into_iter().for_each(|thread| thread.join().expect("it ends"));
         });
         assert_eq!((pool.status().made, pool.status().in_use), (0, 0));
         assert_eq!(pool.pull().err(), Some(PullError::Closed));
@@ -288,9 +279,7 @@ fn who_waits_on_gets_the_item_though_others_give_up() {
         (0..3).for_each(|_| drop(scope.spawn(gives_up)));
         let waits = || (0..500).for_each(|_| drop(pool.pull_timeout(LOST).expect("it was lost")));
         let waiters = [(); 3].map(|()| scope.spawn(waits));
-        waiters
-            .into_iter()
-            .for_each(|waiter| waiter.join().expect("it ends"));
+        waiters.into_iter().for_each(|waiter| waiter.join().expect("it ends"));
         ends.store(true, SeqCst);
     });
     assert_eq!((pool.status().in_use, pool.status().waiting), (0, 0));

@@ -20,18 +20,12 @@ fn each_error_has_its_words_and_its_source() {
         (PullError::AllInUse, "all items are in use"),
         (PullError::TimedOut, "no item was free in time"),
         (PullError::Closed, "the pool is closed"),
-        (
-            PullError::from(source.clone()),
-            "the initializer failed: invalid digit found in string",
-        ),
+        (PullError::from(source.clone()), "the initializer failed: invalid digit found in string"),
     ];
     for (error, words) in words {
         assert_eq!(error.to_string(), words);
         let boxed: Box<dyn Error> = error.into();
-        assert_eq!(
-            (boxed.to_string().as_str(), boxed.source().is_some()),
-            (words, false)
-        );
+        assert_eq!((boxed.to_string().as_str(), boxed.source().is_some()), (words, false));
     }
 }
 

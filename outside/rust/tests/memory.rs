@@ -230,9 +230,7 @@ fn pass(pool: &Arc<Pool<u32>>, turns: usize) {
     let pulling = thread::spawn(move || {
         for _ in 0..turns {
             let item = iter::repeat_with(|| pool.pull_owned()).flatten().next();
-            sender
-                .send(item.expect("the iterator has no end"))
-                .expect("it is read");
+            sender.send(item.expect("the iterator has no end")).expect("it is read");
         }
     });
     receiver.iter().for_each(drop);
@@ -257,9 +255,7 @@ fn threads_that_end_leave_nothing_behind() {
     let run = |threads: usize| {
         for _ in 0..threads {
             let pool = Arc::clone(&pool);
-            thread::spawn(move || assert!(pool.pull().is_some()))
-                .join()
-                .expect("it ends");
+            thread::spawn(move || assert!(pool.pull().is_some())).join().expect("it ends");
         }
     };
     run(200);
@@ -358,10 +354,7 @@ fn threads_that_first_pull_at_their_end_leave_nothing_behind() {
     let (grown, ()) = bytes(|| threads(2_000));
     assert!(grown <= 2_000 * 100, "{grown} bytes more");
     assert_eq!(MADE.load(SeqCst), 1);
-    assert_eq!(
-        iter::from_fn(|| pools.0.pull()).collect::<Vec<_>>().len(),
-        8
-    );
+    assert_eq!(iter::from_fn(|| pools.0.pull()).collect::<Vec<_>>().len(), 8);
 }
 
 /// A linear pool makes a part only where it has no place left.

@@ -34,9 +34,7 @@ impl Random {
     }
 }
 
-const SIZES: [usize; 14] = [
-    1, 2, 2, 31, 32, 33, 63, 64, 65, 127, 129, 1_023, 1_024, 1_025,
-];
+const SIZES: [usize; 14] = [1, 2, 2, 31, 32, 33, 63, 64, 65, 127, 129, 1_023, 1_024, 1_025];
 
 fn run<const N: usize>(seed: u64, commands: &[u64]) {
     let mut random = Random(seed);
@@ -48,20 +46,14 @@ fn run<const N: usize>(seed: u64, commands: &[u64]) {
         &[Kind::Mutex, Kind::Spin, Kind::None],
     ];
     let kinds = kinds.concat().into_iter().enumerate();
-    let models: Vec<_> = kinds
-        .map(|(at, kind)| Model::new(kind, size(), at % 2 == 0))
-        .collect();
+    let models: Vec<_> = kinds.map(|(at, kind)| Model::new(kind, size(), at % 2 == 0)).collect();
     let worlds: Vec<_> = models.iter().map(|_| Arc::new(World::default())).collect();
     let made = models.iter().zip(&worlds);
-    let pools: Vec<_> = made
-        .map(|(model, world)| AnyPool::new(model, world))
-        .collect();
+    let pools: Vec<_> = made.map(|(model, world)| AnyPool::new(model, world)).collect();
     let left: Vec<Vec<usize>> = thread::scope(|scope| {
         let mut run = Run::<N>::new(scope, &pools, &worlds, models);
         (0..3).for_each(|_| run.begin());
-        commands
-            .iter()
-            .for_each(|command| run.command(Random(*command)));
+        commands.iter().for_each(|command| run.command(Random(*command)));
         run.finish()
     });
     drop(pools);

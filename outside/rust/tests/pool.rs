@@ -72,10 +72,7 @@ fn two_at_a_time_are_two_places() {
         let first = pool.pull().expect("one is free");
         let second = pool.pull().expect("one is free");
         assert_ne!(first.number(), second.number());
-        addresses.extend([
-            &*first as *const u32 as usize,
-            &*second as *const u32 as usize,
-        ]);
+        addresses.extend([&*first as *const u32 as usize, &*second as *const u32 as usize]);
     }
     assert_eq!(addresses.len(), 2);
 }
@@ -108,10 +105,7 @@ fn items_are_made_in_their_order() {
 fn a_pool_of_nothing_is_refused() {
     let refused = Pool::<u32>::new(0, || 0, |_| ()).err();
     assert_eq!(refused, Some(NewError::NoItems));
-    assert_eq!(
-        NewError::NoItems.to_string(),
-        "a pool has one item at least"
-    );
+    assert_eq!(NewError::NoItems.to_string(), "a pool has one item at least");
 }
 
 #[test]
@@ -195,9 +189,7 @@ fn threads_hold_different_items() {
             })
         })
         .collect();
-    let told: HashSet<u32> = (0..5)
-        .map(|_| receiver.recv().expect("one a thread"))
-        .collect();
+    let told: HashSet<u32> = (0..5).map(|_| receiver.recv().expect("one a thread")).collect();
     assert_eq!(told, (0..5).collect());
     for thread in threads {
         thread.join().expect("it ends");
@@ -300,21 +292,14 @@ fn nobody_else_is_at_an_item_that_is_held() {
                     let mut items = [pool.pull(), pool.pull()];
                     items.iter_mut().flatten().for_each(|item| **item = mine);
                     thread::yield_now();
-                    let wrong = items
-                        .iter()
-                        .flatten()
-                        .filter(|item| ***item != mine)
-                        .count();
+                    let wrong = items.iter().flatten().filter(|item| ***item != mine).count();
                     faults.fetch_add(wrong, Ordering::SeqCst);
                 }
             });
         }
     });
     assert_eq!(faults.load(Ordering::SeqCst), 0);
-    assert_eq!(
-        std::iter::from_fn(|| pool.pull().map(std::mem::forget)).count(),
-        pool.items()
-    );
+    assert_eq!(std::iter::from_fn(|| pool.pull().map(std::mem::forget)).count(), pool.items());
 }
 
 #[test]
@@ -329,10 +314,7 @@ fn a_value_in_place_of_an_item_is_not_reset() {
     let one = pool.pull_or_else(|| unreachable!("one is free"));
     let mut two = pool.pull_or_else(|| 2);
     *two += 5;
-    assert_eq!(
-        (*one, one.is_pooled(), *two, two.is_pooled()),
-        (1, true, 7, false)
-    );
+    assert_eq!((*one, one.is_pooled(), *two, two.is_pooled()), (1, true, 7, false));
     drop(two);
     assert_eq!(resets.load(Ordering::SeqCst), 0);
     drop(one);

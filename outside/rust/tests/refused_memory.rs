@@ -57,10 +57,7 @@ fn an_opening_that_is_refused_memory_says_so_and_leaves_nothing() {
         pool.ok()
     };
     drop(zeros(1).pull()); // the thread has its number
-    assert!(
-        3 <= refuse_each(open),
-        "the items, the library's pool and a handle ask"
-    );
+    assert!(3 <= refuse_each(open), "the items, the library's pool and a handle ask");
 }
 
 /// A thread asks for the memory of its slot and of its handle at its first call, and does without.
@@ -128,11 +125,7 @@ fn a_thread_that_is_refused_memory_keeps_nothing_past_its_end() {
             assert_eq!(numbers, [0; 2]);
             request >= ASKED.get()
         });
-        assert_eq!(
-            (*pool.pull(), made.load(SeqCst)),
-            (0, 1),
-            "at request {request}"
-        );
+        assert_eq!((*pool.pull(), made.load(SeqCst)), (0, 1), "at request {request}");
         !is_over
     };
     assert!(2 <= (0..).take_while(is_refused).count());
@@ -163,15 +156,8 @@ fn where_memory_is_refused_a_pool_is_and_no_pull() {
     if env::var_os("KUNDRATU_REFUSE_MEMORY").is_none() {
         let mut again = Command::new(env::current_exe().expect("it has a name"));
         again.args(["--exact", "where_memory_is_refused_a_pool_is_and_no_pull"]);
-        let ran = again
-            .env("KUNDRATU_REFUSE_MEMORY", "1")
-            .output()
-            .expect("it runs");
-        assert!(
-            ran.status.success(),
-            "{}",
-            String::from_utf8_lossy(&ran.stdout)
-        );
+        let ran = again.env("KUNDRATU_REFUSE_MEMORY", "1").output().expect("it runs");
+        assert!(ran.status.success(), "{}", String::from_utf8_lossy(&ran.stdout));
         return;
     }
     let (pool, other) = (zeros(ITEMS), zeros(1));
@@ -183,10 +169,7 @@ fn where_memory_is_refused_a_pool_is_and_no_pull() {
     for bytes in [1 << 16, 1 << 12, 256, 64, 48, 32, 16] {
         blocks.extend(iter::from_fn(|| block(bytes)));
     }
-    let refused = (
-        Pool::new(1 << 18, || [0_u64; 512], |_| ()).err(),
-        other.pull().is_some(),
-    );
+    let refused = (Pool::new(1 << 18, || [0_u64; 512], |_| ()).err(), other.pull().is_some());
     held.extend(iter::from_fn(|| pool.pull()));
     drop((blocks, for_the_harness));
     assert_eq!(refused, (Some(NewError::Memory), true));
@@ -228,10 +211,7 @@ fn where_memory_is_refused_a_linear_pool_answers_or_ends_the_process() {
         }
         went_on += usize::from(said.contains("went on"));
         let ended = error.contains("memory allocation of");
-        assert!(
-            ended || ran.status.success() && said.contains("went on"),
-            "{request}: {error}"
-        );
+        assert!(ended || ran.status.success() && said.contains("went on"), "{request}: {error}");
     }
     assert!(1 <= went_on, "a thread does without its own handle");
 }
@@ -245,10 +225,7 @@ fn a_lazy_pool_that_is_refused_memory_says_so_and_leaves_nothing() {
         assert!(pool.is_ok() || matches!(pool, Err(NewError::Memory)));
         pool.ok()
     };
-    assert!(
-        4 <= refuse_each(open),
-        "the states, the items and two pools"
-    );
+    assert!(4 <= refuse_each(open), "the states, the items and two pools");
 }
 
 /// Makes this call, whose first request is refused. Returns how often it asked.

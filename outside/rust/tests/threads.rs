@@ -92,9 +92,7 @@ fn two_hundred_threads_hold_different_items_at_once() {
     };
     let numbers: HashSet<usize> = thread::scope(|scope| {
         let threads: Vec<_> = (0..THREADS).map(|_| scope.spawn(hold)).collect();
-        let numbers = threads
-            .into_iter()
-            .map(|thread| thread.join().expect("it ends"));
+        let numbers = threads.into_iter().map(|thread| thread.join().expect("it ends"));
         numbers.flatten().collect()
     });
     assert_eq!(numbers, (0..THREADS * 2).collect());
@@ -168,9 +166,7 @@ fn pages_of_threads(pool: &Pool<u32>) -> [HashSet<usize>; 3] {
     };
     thread::scope(|scope| {
         let threads: Vec<_> = (0..THREADS_WITH_PAGES).map(|_| scope.spawn(hold)).collect();
-        let pages = threads
-            .into_iter()
-            .map(|thread| thread.join().expect("it ends"));
+        let pages = threads.into_iter().map(|thread| thread.join().expect("it ends"));
         let mut all: [HashSet<_>; 3] = Default::default();
         for pages in pages {
             for (all, page) in all.iter_mut().zip(pages) {

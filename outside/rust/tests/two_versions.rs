@@ -4,16 +4,8 @@ use std::path::Path;
 use std::process::Command;
 use std::{env, fs, io};
 
-const PARTS: [&str; 8] = [
-    "src",
-    "assembly",
-    "tests",
-    "unit_tests",
-    "examples",
-    "benches",
-    "Cargo.toml",
-    "README.md",
-];
+const PARTS: [&str; 8] =
+    ["src", "assembly", "tests", "unit_tests", "examples", "benches", "Cargo.toml", "README.md"];
 
 const MAIN: &str = "
 fn main() {
@@ -52,20 +44,12 @@ fn copy(from: &Path, to: &Path, later: bool) -> io::Result<()> {
     let text = fs::read_to_string(from)?;
     let [major, minor, patch] = ["MAJOR", "MINOR", "PATCH"].map(|part| {
         let part = env::var(format!("CARGO_PKG_VERSION_{part}"));
-        part.expect("cargo sets it")
-            .parse::<u32>()
-            .expect("a number")
+        part.expect("cargo sets it").parse::<u32>().expect("a number")
     });
     let next = minor + u32::from(later);
     let text = text
-        .replace(
-            &format!("kdr_{major}_{minor}_{patch}_"),
-            &format!("kdr_{major}_{next}_{patch}_"),
-        )
-        .replace(
-            &format!(".L{major}_{minor}_{patch}_"),
-            &format!(".L{major}_{next}_{patch}_"),
-        )
+        .replace(&format!("kdr_{major}_{minor}_{patch}_"), &format!("kdr_{major}_{next}_{patch}_"))
+        .replace(&format!(".L{major}_{minor}_{patch}_"), &format!(".L{major}_{next}_{patch}_"))
         .replace(
             &format!("version = \"{major}.{minor}.{patch}\""),
             &format!("version = \"{major}.{next}.{patch}\""),

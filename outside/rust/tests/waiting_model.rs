@@ -18,9 +18,7 @@ fn explore(items: usize, threads: [usize; 3], fault: Fault) -> (usize, Option<St
     let (mut seen, mut untried) = (HashSet::from([first.clone()]), vec![first]);
     while let Some(state) = untried.pop() {
         let threads = 0..state.threads.len();
-        let after: Vec<_> = threads
-            .flat_map(|index| state.after(index, items, fault))
-            .collect();
+        let after: Vec<_> = threads.flat_map(|index| state.after(index, items, fault)).collect();
         if after.is_empty() && state.is_bad() {
             return (seen.len(), Some(state));
         }
@@ -45,13 +43,7 @@ fn nobody_sleeps_beside_a_free_item() {
 #[test]
 #[ignore = "a minute with optimization"]
 fn nobody_sleeps_beside_a_free_item_in_larger_cases() {
-    none_is_bad(&[
-        (1, [2, 0, 1]),
-        (1, [3, 0, 0]),
-        (1, [2, 1, 0]),
-        (2, [2, 0, 0]),
-        (2, [1, 1, 0]),
-    ]);
+    none_is_bad(&[(1, [2, 0, 1]), (1, [3, 0, 0]), (1, [2, 1, 0]), (2, [2, 0, 0]), (2, [1, 1, 0])]);
 }
 
 #[test]

@@ -25,9 +25,7 @@ fn an_item_that_moves_is_found() {
             thread::spawn(move || drop(free)).join().expect("it ends");
             // The next thread has this one's slot, and begins where this one pulled.
             let other = Arc::clone(&pool);
-            thread::spawn(move || drop(other.pull()))
-                .join()
-                .expect("it ends");
+            thread::spawn(move || drop(other.pull())).join().expect("it ends");
             let other = Arc::clone(&pool);
             let call = move || {
                 thread::spawn(move || drop(moved)).join().expect("it ends");
@@ -37,10 +35,7 @@ fn an_item_that_moves_is_found() {
                 };
                 thread::spawn(pull).join().expect("it ends");
             };
-            MOVES.set(VecDeque::from([(
-                before,
-                Box::new(call) as Box<dyn FnOnce()>,
-            )]));
+            MOVES.set(VecDeque::from([(before, Box::new(call) as Box<dyn FnOnce()>)]));
             let _item = pool.pull();
             MOVES.take();
             assert_eq!(count.load(SeqCst), 40);
@@ -53,10 +48,7 @@ fn an_item_that_moves_is_found() {
 #[test]
 fn an_item_that_a_look_missed_is_found_by_the_next() {
     let _alone = TESTED.lock().unwrap_or_else(PoisonError::into_inner);
-    for (at, before) in (0..40)
-        .step_by(5)
-        .flat_map(|at| (0..40).map(move |before| (at, before)))
-    {
+    for (at, before) in (0..40).step_by(5).flat_map(|at| (0..40).map(move |before| (at, before))) {
         let (pool, count) = counted();
         let mut items: Vec<_> = (0..40).map(|_| Some(pool.pull_owned())).collect();
         let (gone, moved) = (items[1].take(), items[at].take());
@@ -68,10 +60,7 @@ fn an_item_that_a_look_missed_is_found_by_the_next() {
         let first = pool.pull();
         let is_over = MOVES.take().is_empty();
         let both = (first, pool.pull());
-        assert!(
-            !is_over || count.load(SeqCst) == 41,
-            "{at} at step {before}"
-        );
+        assert!(!is_over || count.load(SeqCst) == 41, "{at} at step {before}");
         drop(both);
     }
 }
@@ -90,13 +79,8 @@ fn a_pull_that_is_held_up_hides_no_items() {
         drop(pool.pull()); // this thread keeps it
         let kept = pool.pull();
         let other = Arc::clone(&pool);
-        let pull_most = move || {
-            mem::forget(
-                (0..ITEMS - 9)
-                    .map(|_| other.pull_owned())
-                    .collect::<Vec<_>>(),
-            )
-        };
+        let pull_most =
+            move || mem::forget((0..ITEMS - 9).map(|_| other.pull_owned()).collect::<Vec<_>>());
         let returns = one_move(first, move || in_a_thread(move || drop(items)));
         let pulls = one_move(second, move || in_a_thread(pull_most));
         MOVES.set(VecDeque::from([returns, pulls]));
@@ -104,10 +88,7 @@ fn a_pull_that_is_held_up_hides_no_items() {
         let is_over = MOVES.take().is_empty();
         let made = count.load(SeqCst);
         // Where the pull itself had passed by before the items came back, it makes one.
-        assert!(
-            !is_over || made <= ITEMS + 1,
-            "{made} items at {first} and {second}"
-        );
+        assert!(!is_over || made <= ITEMS + 1, "{made} items at {first} and {second}");
         drop((kept, pulled));
     }
 }

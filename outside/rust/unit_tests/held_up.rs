@@ -53,11 +53,7 @@ impl HeldUp {
             });
             MOVES.take();
         });
-        let held_up = HeldUp {
-            goes_on,
-            stands,
-            thread,
-        };
+        let held_up = HeldUp { goes_on, stands, thread };
         held_up.wait();
         held_up
     }
@@ -84,9 +80,7 @@ fn try_order([first, second]: [(Call, usize); 2], shared: usize, own: usize) {
     let mut next = || items.remove(ITEMS / 2); // all are of the second part
     let held_up = HeldUp::begin(&pool, first.0, next(), first.1);
     let made = || count.load(SeqCst);
-    let mut pulled: Vec<_> = (0..shared)
-        .map(|_| threads::with(|_| pool.pull()))
-        .collect();
+    let mut pulled: Vec<_> = (0..shared).map(|_| threads::with(|_| pool.pull())).collect();
     pulled.extend((0..own).map(|_| pool.pull()));
     let other = HeldUp::begin(&pool, second.0, next(), second.1);
     held_up.end();

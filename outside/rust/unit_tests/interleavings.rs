@@ -44,12 +44,7 @@ fn bring_back(item: Item) {
 }
 
 fn all_are_free(two: Two) {
-    two.1
-        .lock()
-        .expect("no panic")
-        .take()
-        .into_iter()
-        .for_each(bring_back);
+    two.1.lock().expect("no panic").take().into_iter().for_each(bring_back);
     let items: Vec<_> = iter::from_fn(|| two.0.pull()).collect();
     assert_eq!(items.len(), 2);
     assert!(items.iter().all(|item| item.get() == 0));
@@ -89,13 +84,7 @@ fn an_item_that_a_third_thread_keeps_is_pulled_by_one() {
 fn an_item_that_moves_between_thread_slots_is_found() {
     let twice = |two: &Two| (0..2).for_each(|_| bring_back(pull(two)));
     let once = |two: &Two| bring_back(pull(two));
-    explore_changes(
-        4,
-        1_000,
-        two_of_which_one_is_kept,
-        [twice, once],
-        all_are_free,
-    );
+    explore_changes(4, 1_000, two_of_which_one_is_kept, [twice, once], all_are_free);
 }
 
 /// A pool of one item, and the calls that began and ended: of each thread which, in their order.
@@ -133,9 +122,7 @@ impl One {
         for (end, &(thread, call)) in calls.iter().enumerate() {
             if call == Call::Refused {
                 let before = &calls[..end];
-                let begin = before
-                    .iter()
-                    .rposition(|other| *other == (thread, Call::Holds));
+                let begin = before.iter().rposition(|other| *other == (thread, Call::Holds));
                 let begin = begin.expect("it began");
                 let other = |(of, _): &&(usize, Call)| *of != thread;
                 let between = calls[begin..end].iter().any(|call| other(&call));
@@ -168,18 +155,13 @@ fn a_pull_of_one_item_is_refused_only_while_it_is_held() {
 }
 
 /// Two pools of one item. Each of two threads holds one, and delays its writes.
-struct Each(
-    [Arc<Pool<u32>>; 2],
-    [Mutex<Option<OwnedReusable<u32>>>; 2],
-    AtomicUsize,
-);
+struct Each([Arc<Pool<u32>>; 2], [Mutex<Option<OwnedReusable<u32>>>; 2], AtomicUsize);
 
 impl Each {
     /// Returns the item of one pool, and then pulls the other one's.
     fn turn(&self, thread: usize) {
         drop(self.1[thread].lock().expect("no panic").take());
-        self.2
-            .fetch_add(usize::from(self.0[1 - thread].pull().is_none()), SeqCst);
+        self.2.fetch_add(usize::from(self.0[1 - thread].pull().is_none()), SeqCst);
     }
 }
 
@@ -203,11 +185,7 @@ fn one_of_two_pulls_finds_what_the_other_thread_returned_before() {
 
 /// A pool of one item, which the first thread holds. Before the other one pulls it, that one says
 /// that it may wait.
-struct Waited(
-    Arc<Pool<u32>>,
-    Mutex<Option<OwnedReusable<u32>>>,
-    [atomics::AtomicUsize; 2],
-);
+struct Waited(Arc<Pool<u32>>, Mutex<Option<OwnedReusable<u32>>>, [atomics::AtomicUsize; 2]);
 
 /// A program that waits in its own way has a fence between a return and its read of who waits.
 #[test]
@@ -232,17 +210,10 @@ fn who_waits_in_its_own_way_is_seen_after_a_return_and_a_fence() {
         waits.store(1, atomics::Ordering::Relaxed);
         waits.store(1 + usize::from(pool.pull().is_none()), SeqCst);
     };
-    explore_after(
-        hold,
-        3,
-        100,
-        waited,
-        [give_back, wait],
-        |Waited(_, _, flags)| {
-            let [waits, is_seen] = flags.map(|flag| flag.load(SeqCst));
-            assert!(waits == 1 || is_seen > 0, "it waits, and nobody sees that");
-        },
-    );
+    explore_after(hold, 3, 100, waited, [give_back, wait], |Waited(_, _, flags)| {
+        let [waits, is_seen] = flags.map(|flag| flag.load(SeqCst));
+        assert!(waits == 1 || is_seen > 0, "it waits, and nobody sees that");
+    });
 }
 
 #[test]
@@ -259,9 +230,7 @@ fn an_item_that_a_third_thread_keeps_is_taken_by_one() {
             mem::forget(item);
         }
     };
-    explore_changes(4, 20, kept, [take, take], |(_, taken)| {
-        assert_eq!(taken.into_inner(), 1)
-    });
+    explore_changes(4, 20, kept, [take, take], |(_, taken)| assert_eq!(taken.into_inner(), 1));
 }
 
 /// A thread that pulls an item and returns it as it is told to. It has its number until its end.
@@ -336,11 +305,7 @@ fn an_item_that_is_kept_again_meanwhile_is_found() {
         let other = pool.pull_owned();
         worker.order(false); // it keeps its item
         let again = Rc::clone(&worker);
-        let keep_again = move || {
-            [true, false]
-                .into_iter()
-                .for_each(|pulls| again.order(pulls))
-        };
+        let keep_again = move || [true, false].into_iter().for_each(|pulls| again.order(pulls));
         let last = Rc::clone(&worker);
         let return_other = move || {
             in_a_thread(|| threads::with(|_| drop(other)));
@@ -363,19 +328,14 @@ fn an_item_that_comes_back_beside_a_look_is_found() {
     let made = || (two(), Held::default());
     let hold = |(Two(pool, _), held): &Shared, thread: usize| {
         if thread == 0 {
-            held.lock()
-                .expect("no panic")
-                .extend([pull_of(pool), pull_of(pool)]);
+            held.lock().expect("no panic").extend([pull_of(pool), pull_of(pool)]);
         }
         atomics::delay(true);
     };
     let returns = |(_, held): &Shared| drop(mem::take(&mut *held.lock().expect("no panic")));
     let pulls = |(Two(pool, _), _): &Shared| drop((pool.pull(), pool.pull()));
     explore_after(hold, 3, 100, made, [returns, pulls], |(Two(pool, _), _)| {
-        assert_eq!(
-            [(); 3].map(|()| pool.pull().map(mem::forget).is_some()),
-            [true, true, false]
-        );
+        assert_eq!([(); 3].map(|()| pool.pull().map(mem::forget).is_some()), [true, true, false]);
     });
 }
 
@@ -395,13 +355,9 @@ fn a_thread_without_a_number_pulls_and_returns() {
     let turn = || {
         let mut items: Vec<_> = iter::from_fn(|| pool.pull()).collect();
         assert_eq!(items.len(), 5);
-        items
-            .iter_mut()
-            .for_each(|item| assert_eq!(mem::replace(&mut **item, 1), 0));
+        items.iter_mut().for_each(|item| assert_eq!(mem::replace(&mut **item, 1), 0));
         let mut others: Vec<_> = (0..50).map(|_| grows.pull()).collect();
-        others
-            .iter_mut()
-            .for_each(|item| assert_ne!(mem::replace(&mut **item, 99), 99));
+        others.iter_mut().for_each(|item| assert_ne!(mem::replace(&mut **item, 99), 99));
         assert_eq!([pool.status().in_use, grows.status().in_use], [5, 50]);
         others.iter_mut().for_each(|item| **item = 0);
     };

@@ -87,11 +87,7 @@ fn a_return_at_any_step_of_a_poll_is_not_lost() {
             let waker = Waker::from(Arc::clone(&woken));
             let mut wait = pin!(pool.pull_async());
             let moves = [(step, goes_on(&other, || None))];
-            let poll = || {
-                wait.as_mut()
-                    .poll(&mut Context::from_waker(&waker))
-                    .is_ready()
-            };
+            let poll = || wait.as_mut().poll(&mut Context::from_waker(&waker)).is_ready();
             let is_ready = meanwhile(moves, poll);
             let is_over = other.lock().expect("no panic").is_none();
             assert!(is_ready || !is_over || woken.0.load(SeqCst), "{step}");
@@ -109,16 +105,10 @@ fn a_comer_at_any_step_of_a_return_does_not_pass_the_queue() {
         let woken = Arc::<Woken>::default();
         let waker = Waker::from(Arc::clone(&woken));
         let mut wait = pin!(pool.pull_async());
-        assert!(wait
-            .as_mut()
-            .poll(&mut Context::from_waker(&waker))
-            .is_pending());
+        assert!(wait.as_mut().poll(&mut Context::from_waker(&waker)).is_pending());
         let comes = goes_on(&other, || Held::any(pool)?.ok());
         meanwhile([(step, comes)], || drop(item));
-        assert!(
-            other.lock().expect("no panic").is_none(),
-            "after {step} steps"
-        );
+        assert!(other.lock().expect("no panic").is_none(), "after {step} steps");
         assert!(woken.0.load(SeqCst), "after {step} steps");
     }
 }

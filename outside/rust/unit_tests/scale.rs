@@ -67,8 +67,5 @@ fn a_new_item_takes_as_many_steps_however_many_items_and_threads_there_are() {
     assert_eq!([steps_of_a_making(grow), steps_of_a_making(make)], few);
     assert!(few.iter().all(|steps| *steps < 30), "{few:?}");
     let looks = grows(&LOOKS, || (0..1_000).for_each(|_| make()));
-    assert!(
-        looks <= 1_010,
-        "{looks} looks, of which one a pull finds an empty place"
-    );
+    assert!(looks <= 1_010, "{looks} looks, of which one a pull finds an empty place");
 }

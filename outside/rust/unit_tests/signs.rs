@@ -65,10 +65,7 @@ fn the_counts_are_apart() {
         assert!(!signs.load().stops_pull(Order::ANY));
     }
     signs.close();
-    assert_eq!(
-        (signs.load().waiting(), signs.load().is_closed()),
-        (4, true)
-    );
+    assert_eq!((signs.load().waiting(), signs.load().is_closed()), (4, true));
     (0..4).for_each(|_| signs.leave());
     assert_eq!(signs.load().waiting(), 0);
     assert!(signs.load().is_closed() && signs.load().stops_pull(Order::ANY));

@@ -37,9 +37,7 @@ fn numbers_at_once(threads: usize) -> Vec<usize> {
     thread::scope(|scope| {
         let threads: Vec<_> = (0..threads).map(|_| scope.spawn(run)).collect();
         let numbers = threads.into_iter().map(|thread| thread.join());
-        numbers
-            .filter_map(|number| number.expect("it ends"))
-            .collect()
+        numbers.filter_map(|number| number.expect("it ends")).collect()
     })
 }
 

@@ -10,11 +10,7 @@ macro_rules! proved_for {
 }
 
 proved_for!(
-    all(
-        target_os = "linux",
-        target_arch = "x86_64",
-        target_pointer_width = "64"
-    ),
+    all(target_os = "linux", target_arch = "x86_64", target_pointer_width = "64"),
     all(
         target_os = "linux",
         target_arch = "aarch64",

@@ -148,10 +148,7 @@ impl Fixed {
     fn new_thread_slot(&self, number: &Number) -> OwnLines<ThreadSlot> {
         let mut way = Way::new(number.get(), self.places().div_ceil(PAGE));
         way.handle = self.library.0.open();
-        let own = Own {
-            empty: Cell::new(Kept::NONE),
-            way: RefCell::new(way),
-        };
+        let own = Own { empty: Cell::new(Kept::NONE), way: RefCell::new(way) };
         OwnLines(ThreadSlot {
             kept: Kept::new(),
             pulled: Pulled::default(),
@@ -221,13 +218,7 @@ impl Way {
         // Threads begin so far apart that the words of their pages lie on cache lines of their own.
         let far = if pages % 17 == 0 { 1 } else { 17 };
         let begin = (number + 1) * far;
-        Way {
-            handle: None,
-            page: begin % pages,
-            begin,
-            moves: 0,
-            left: TOGETHER,
-        }
+        Way { handle: None, page: begin % pages, begin, moves: 0, left: TOGETHER }
     }
 
     /// Pulls a place of the library.

@@ -74,11 +74,7 @@ impl Growing {
         let pulled = slots().map(|slot| &slot.pulled);
         let pulled = status::Pulled::sum(pulled.chain([&self.news.0.pulled]));
         let kept: usize = slots().map(ThreadSlot::kept).sum();
-        [
-            parts().map(|part| part.library.places()).sum(),
-            made,
-            pulled.wrapping_sub(kept),
-        ]
+        [parts().map(|part| part.library.places()).sum(), made, pulled.wrapping_sub(kept)]
     }
 
     /// Counts that a thread pulled places of parts, or returned them there.

@@ -126,8 +126,7 @@ impl<T, E> LazyPool<T, E> {
     /// Pulls an item as [`pull`](LazyPool::pull) does. If that fails for any reason, this returns a
     /// value that belongs to no pool, and is dropped at its end.
     pub fn pull_or_else(&self, value: impl FnOnce() -> T) -> OrElse<LazyReusable<'_, T, E>, T> {
-        self.pull()
-            .map_or_else(|_| OrElse::Own(value()), OrElse::Pooled)
+        self.pull().map_or_else(|_| OrElse::Own(value()), OrElse::Pooled)
     }
 
     /// Pulls an item that is made and free. `None` if there is none that the check keeps, or if
@@ -204,10 +203,7 @@ impl<T, E> LazyPool<T, E> {
 
     /// Ends the pool, and returns its items.
     pub fn into_inner(self) -> Vec<T> {
-        self.items
-            .into_values()
-            .filter_map(|entry| entry.item)
-            .collect()
+        self.items.into_values().filter_map(|entry| entry.item).collect()
     }
 
     /// Pulls an item, or makes one.

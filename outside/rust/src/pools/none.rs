@@ -26,9 +26,7 @@ pub struct NoneReusable<T> {
 impl<T> NoneObjectPool<T> {
     /// Creates a pool of items that `init` makes.
     pub fn new<I: Fn() -> T + Send + Sync + 'static>(init: I) -> Self {
-        NoneObjectPool {
-            init: Box::new(init),
-        }
+        NoneObjectPool { init: Box::new(init) }
     }
 
     /// Returns a new item.

@@ -91,8 +91,7 @@ impl<T, R: Fn(&mut T)> Pool<T, R> {
     /// # Ok::<(), kundratu_pool::NewError>(())
     /// ```
     pub fn pull_or_else(&self, value: impl FnOnce() -> T) -> OrElse<Reusable<'_, T, R>, T> {
-        self.pull()
-            .map_or_else(|| OrElse::Own(value()), OrElse::Pooled)
+        self.pull().map_or_else(|| OrElse::Own(value()), OrElse::Pooled)
     }
 
     /// Ends the pool, and returns its items.
@@ -188,8 +187,6 @@ impl Display for NewError {
 
 impl<T, R: Fn(&mut T)> Debug for Pool<T, R> {
     fn fmt(&self, f: &mut Formatter<'_>) -> fmt::Result {
-        f.debug_struct("Pool")
-            .field("items", &self.items())
-            .finish_non_exhaustive()
+        f.debug_struct("Pool").field("items", &self.items()).finish_non_exhaustive()
     }
 }

@@ -88,11 +88,7 @@ impl<T, S: Stack<T> + Default> StackObjectPool<T, S> {
         R: Fn(&mut T) + Send + Sync + 'static,
         I: Fn() -> T + Send + Sync + 'static,
     {
-        StackObjectPool {
-            kept: S::default(),
-            init: Box::new(init),
-            reset: Box::new(reset),
-        }
+        StackObjectPool { kept: S::default(), init: Box::new(init), reset: Box::new(reset) }
     }
 }
 
@@ -155,8 +151,6 @@ impl<T: Debug, S: Stack<T>, P: Deref<Target = StackObjectPool<T, S>>> Debug
 impl<T, S: Stack<T>> Debug for StackObjectPool<T, S> {
     fn fmt(&self, f: &mut Formatter<'_>) -> fmt::Result {
         let kept = self.kept.with(|list| list.len());
-        f.debug_struct("StackObjectPool")
-            .field("kept", &kept)
-            .finish_non_exhaustive()
+        f.debug_struct("StackObjectPool").field("kept", &kept).finish_non_exhaustive()
     }
 }

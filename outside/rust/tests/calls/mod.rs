@@ -70,9 +70,7 @@ fn call(mut call: impl FnMut()) {
 }
 
 fn no_status() -> Status {
-    Pool::new(1, || (), |()| ())
-        .expect("there is memory")
-        .status()
+    Pool::new(1, || (), |()| ()).expect("there is memory").status()
 }
 
 /// Makes the calls of a pool whose pulls may fail: first pulls from the middle on, returns of most,
@@ -153,9 +151,5 @@ pub fn judge(said: &str, counts: Vec<u64>) -> usize {
         println!("{name}: {} and {} instructions{told}", both[0], both[1]);
         is_wrong
     };
-    CALLS
-        .iter()
-        .enumerate()
-        .filter(|call| is_wrong(*call))
-        .count()
+    CALLS.iter().enumerate().filter(|call| is_wrong(*call)).count()
 }

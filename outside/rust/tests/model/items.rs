@@ -105,12 +105,7 @@ impl<const N: usize> Item<N> {
         let id = world.next.fetch_add(1, SeqCst);
         let is_kept = world.act(INIT, Event::Init(id));
         let (value, room, world) = (0, [id; N], Arc::clone(world));
-        let item = || Item {
-            id,
-            value,
-            room,
-            world,
-        };
+        let item = || Item { id, value, room, world };
         is_kept.then(item).ok_or(id)
     }
 

@@ -105,10 +105,7 @@ impl Model {
                 Event::Got(out) => Some(*out),
                 _ => None,
             };
-            let out = events
-                .clone()
-                .find_map(|event| got(&event))
-                .expect("it gets something");
+            let out = events.clone().find_map(|event| got(&event)).expect("it gets something");
             self.pull(thread, How::Any, out, events);
             assert_eq!(events.next(), Some(Event::Got(out)));
             if let Out::Item(id) = out {
@@ -155,31 +152,20 @@ impl Model {
         let own = self.growing.get_mut(&thread).expect("it is there");
         if matches!(events.peek(), Some(Event::Init(_))) {
             let free = self.free;
-            assert!(
-                free <= most,
-                "one is made, of {free} free ones others keep {most}"
-            );
+            assert!(free <= most, "one is made, of {free} free ones others keep {most}");
             assert_eq!(own.least(), 0, "one is made, and the thread keeps some");
             return self.init(thread, events);
         }
         assert!(least < self.free, "others keep all that are free");
         if let Some(kept) = own.pull() {
-            assert_eq!(
-                out,
-                Out::Item(kept),
-                "of what the thread keeps, the last one"
-            );
+            assert_eq!(out, Out::Item(kept), "of what the thread keeps, the last one");
         }
         self.take_out(thread, out)
     }
 
     fn pull_lazy(&mut self, thread: usize, how: How, out: Out, events: &mut Events) -> Out {
         if self.closed {
-            return if matches!(how, How::Try) {
-                Out::Refused
-            } else {
-                Out::Closed
-            };
+            return if matches!(how, How::Try) { Out::Refused } else { Out::Closed };
         }
         while self.free > 0 {
             let next = match events.peek() {
@@ -289,10 +275,7 @@ impl Model {
 
     /// An item that isn't free is dropped. Returns whether that unwinds.
     pub fn dropped(&mut self, thread: usize, id: usize, events: &mut Events) -> bool {
-        assert!(self
-            .things
-            .remove(&id)
-            .is_some_and(|thing| thing.free.is_none()));
+        assert!(self.things.remove(&id).is_some_and(|thing| thing.free.is_none()));
         self.busy += 1;
         let act = self.call(thread, DROP, Event::Dropped(id), events);
         self.busy -= 1;

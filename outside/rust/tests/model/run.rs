@@ -24,11 +24,7 @@ impl<'s, 'p: 's> Worker<'s, 'p> {
     fn new(scope: &'s Scope<'s, 'p>, name: usize) -> Self {
         let (orders, told) = channel::<Order<'p>>();
         let thread = scope.spawn(move || told.into_iter().for_each(|order| order()));
-        Worker {
-            name,
-            orders,
-            thread,
-        }
+        Worker { name, orders, thread }
     }
 
     /// Makes this call in the thread. One that doesn't end within 20 s ends the process.
@@ -95,9 +91,7 @@ impl<'s, 'p: 's, const N: usize> Run<'s, 'p, N> {
 
     fn end(&mut self, worker: usize) {
         let worker = self.workers.swap_remove(worker);
-        self.models
-            .iter_mut()
-            .for_each(|model| model.end(worker.name));
+        self.models.iter_mut().for_each(|model| model.end(worker.name));
         worker.end();
     }
 
@@ -115,18 +109,11 @@ impl<'s, 'p: 's, const N: usize> Run<'s, 'p, N> {
         });
         for ((out, held), events) in pulled {
             let model = &mut self.models[at];
-            model.replay(events, |model, events| {
-                model.pull(worker.name, how, out, events)
-            });
+            model.replay(events, |model, events| model.pull(worker.name, how, out, events));
             if let Some(mut held) = held {
                 let item = held.item();
                 assert!(item.room.iter().all(|word| *word == item.id), "overwritten");
-                assert_eq!(
-                    item.value,
-                    *self.models[at].value(item.id),
-                    "of item {}",
-                    item.id
-                );
+                assert_eq!(item.value, *self.models[at].value(item.id), "of item {}", item.id);
                 self.held[at].push((item.id, held));
             }
         }
@@ -174,9 +161,7 @@ impl<'s, 'p: 's, const N: usize> Run<'s, 'p, N> {
         };
         let worker = &self.workers[worker];
         let (got, events) = worker.call(move || (tried(|| call(pool)), world.take_events()));
-        self.models[at].replay(events, |model, events| {
-            expected(model, worker.name, events, got)
-        });
+        self.models[at].replay(events, |model, events| expected(model, worker.name, events, got));
     }
 
     fn fill(&mut self, worker: usize, at: usize, items: usize) {
@@ -219,10 +204,7 @@ impl<'s, 'p: 's, const N: usize> Run<'s, 'p, N> {
 
     pub fn command(&mut self, mut random: Random) {
         let random = &mut random;
-        let (worker, at) = (
-            random.below(self.workers.len()),
-            random.below(self.pools.len()),
-        );
+        let (worker, at) = (random.below(self.workers.len()), random.below(self.pools.len()));
         let mut acts = [Act::Keeps; 4];
         if random.one_in(4) {
             acts[random.below(4)] = [Act::Rejects, Act::Panics, Act::Calls][random.below(3)];
@@ -259,11 +241,7 @@ impl<'s, 'p: 's, const N: usize> Run<'s, 'p, N> {
                 *self.models[at].value(*id) = some;
             }
             10 if self.workers.len() > 1 && random.one_in(3) => {
-                let others = if random.one_in(4) {
-                    self.workers.len() - 1
-                } else {
-                    1
-                };
+                let others = if random.one_in(4) { self.workers.len() - 1 } else { 1 };
                 (0..others).for_each(|_| self.end(0));
             }
             11 if self.workers.len() < 12 => self.begin(),
@@ -332,9 +310,7 @@ impl<'s, 'p: 's, const N: usize> Run<'s, 'p, N> {
         }
         self.end(0);
         self.detached.clear();
-        self.worlds
-            .iter()
-            .for_each(|world| drop(world.take_events()));
+        self.worlds.iter().for_each(|world| drop(world.take_events()));
         self.models.iter().map(Model::ids).collect()
     }
 

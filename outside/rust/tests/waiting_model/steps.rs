@@ -147,9 +147,8 @@ impl State {
             Fault::CountsItselfAfterItsTry => Look,
             _ => Enter,
         };
-        let mut threads: Vec<_> = (0..items)
-            .map(|item| thread(Kind::Holder, returns, item))
-            .collect();
+        let mut threads: Vec<_> =
+            (0..items).map(|item| thread(Kind::Holder, returns, item)).collect();
         threads.extend((0..waiters).map(|_| thread(Kind::Waiter, enters, 0)));
         threads.extend((0..timed).map(|_| thread(Kind::Timed, enters, 0)));
         threads.extend((0..passers).map(|_| thread(Kind::Passer, Look, 0)));
@@ -193,11 +192,7 @@ impl State {
         match me.step {
             Enter => vec![self.with(index, |state, me| {
                 state.waiting += 1;
-                me.step = if fault == Fault::CountsItselfAfterItsTry {
-                    Lock
-                } else {
-                    Look
-                };
+                me.step = if fault == Fault::CountsItselfAfterItsTry { Lock } else { Look };
             })],
             Look => vec![self.with(index, |_, me| (me.told, me.step) = (0, ReadEmpties))],
             ReadEmpties => (0..items)
@@ -244,22 +239,15 @@ impl State {
             })],
             PassOn => {
                 let is_due = me.slept.is_some_and(|told| told > 1);
-                goes(if is_due && fault != Fault::NobodyPassesOn {
-                    ReadWaiting
-                } else {
-                    Has
-                })
+                goes(if is_due && fault != Fault::NobodyPassesOn { ReadWaiting } else { Has })
             }
             GiveUp => vec![self.with(index, |state, me| {
                 state.waiting -= 1;
                 me.step = ReadWaiting;
             })],
             Has => {
-                let returns = if fault == Fault::ReadsWaitingBeforeItsBit {
-                    ReadWaiting
-                } else {
-                    SetBit
-                };
+                let returns =
+                    if fault == Fault::ReadsWaitingBeforeItsBit { ReadWaiting } else { SetBit };
                 let gives = self.with(index, |_, me| {
                     (me.kind, me.has, me.step) = (Kind::Holder, false, returns)
                 });
@@ -331,10 +319,7 @@ impl State {
             })],
             Woken => vec![self.with(index, |state, me| {
                 state.is_locked = true;
-                if !matches!(
-                    fault,
-                    Fault::WokenOneStaysWoken | Fault::WokenOneLooksAsWoken
-                ) {
+                if !matches!(fault, Fault::WokenOneStaysWoken | Fault::WokenOneLooksAsWoken) {
                     state.is_woken = false;
                 }
                 me.step = Wakes;
@@ -387,9 +372,9 @@ impl State {
                     _ => ReadWaiting,
                 };
             })],
-            ReadWaiting if early => vec![self.with(index, |state, me| {
-                (me.has, me.step) = (state.waiting > 0, SetBit)
-            })],
+            ReadWaiting if early => {
+                vec![self.with(index, |state, me| (me.has, me.step) = (state.waiting > 0, SetBit))]
+            }
             ReadWaiting => goes(if self.waiting > 0 { Count } else { Told }),
             Count => vec![self.with(index, |state, me| {
                 if fault != Fault::ReturnIsNotCounted {
@@ -402,20 +387,12 @@ impl State {
             ReadWoken => goes(if self.is_woken { Told } else { Choose }),
             Choose if self.is_locked => vec![],
             Choose => vec![self.with(index, |state, me| {
-                me.step = if state.asleep > 0 && !state.is_woken {
-                    Notify
-                } else {
-                    Told
-                };
+                me.step = if state.asleep > 0 && !state.is_woken { Notify } else { Told };
                 state.is_woken |= state.asleep > 0;
             })],
             Notify => self.notify(index),
             Told if self.is_uncounted(&me, fault) => goes(CountEmpty),
-            Told => goes(if me.has && me.kind != Kind::Holder {
-                Has
-            } else {
-                End
-            }),
+            Told => goes(if me.has && me.kind != Kind::Holder { Has } else { End }),
             step => unreachable!("{step:?}"),
         }
     }
@@ -444,14 +421,9 @@ impl State {
 
     /// Whether a thread sleeps beside a free item, or the counts aren't right, where none can step.
     pub fn is_bad(&self) -> bool {
-        let sleep = self
-            .threads
-            .iter()
-            .filter(|thread| thread.step == Asleep)
-            .count();
-        let is_counted = [self.waiting, self.asleep]
-            .iter()
-            .all(|&count| usize::from(count) == sleep);
+        let sleep = self.threads.iter().filter(|thread| thread.step == Asleep).count();
+        let is_counted =
+            [self.waiting, self.asleep].iter().all(|&count| usize::from(count) == sleep);
         let is_free = self.free.contains(&true) || self.empty.contains(&true);
         !is_counted || (sleep > 0 && is_free)
     }

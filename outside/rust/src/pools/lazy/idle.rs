@@ -30,12 +30,7 @@ pub(super) struct Times {
 
 impl Default for Times {
     fn default() -> Self {
-        Times {
-            begun: Instant::now(),
-            idle: None,
-            life: None,
-            noted: AtomicU64::new(0),
-        }
+        Times { begun: Instant::now(), idle: None, life: None, noted: AtomicU64::new(0) }
     }
 }
 
@@ -72,8 +67,7 @@ impl Times {
 
     /// Returns whether an item is past its time of life.
     pub(super) fn is_past<T>(&self, entry: &Entry<T>) -> bool {
-        self.life
-            .is_some_and(|life| since(entry.made, self.now()) >= life)
+        self.life.is_some_and(|life| since(entry.made, self.now()) >= life)
     }
 
     /// Returns whether an item that was free is past its time of life, or was free for too long.

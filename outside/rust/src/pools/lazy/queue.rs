@@ -52,8 +52,7 @@ struct Waiter {
 impl Line {
     fn index(&self, ticket: u64) -> Option<usize> {
         let all = &self.all;
-        all.binary_search_by_key(&ticket, |waiter| waiter.ticket)
-            .ok()
+        all.binary_search_by_key(&ticket, |waiter| waiter.ticket).ok()
     }
 
     /// Removes who has this ticket, and returns it.
@@ -85,11 +84,7 @@ impl Queue {
         line.all.try_reserve(1).ok()?;
         line.last += 1;
         let (ticket, place, wake) = (line.last, None, Some(wake));
-        line.all.push_back(Waiter {
-            ticket,
-            place,
-            wake,
-        });
+        line.all.push_back(Waiter { ticket, place, wake });
         self.waiting.fetch_add(1, SeqCst);
         signs.enter();
         let is_first = line.served + 1 == line.all.len();

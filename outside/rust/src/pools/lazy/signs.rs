@@ -78,11 +78,7 @@ impl Signs {
 
     /// Notes that a look for a made item, which began after this was seen, found none.
     pub(super) fn none_found(&self, seen: Seen) {
-        let sign = if seen.0 & WATCHED == 0 {
-            WATCHED
-        } else {
-            NONE_MADE
-        };
+        let sign = if seen.0 & WATCHED == 0 { WATCHED } else { NONE_MADE };
         self.change(|now| ((now ^ seen.0) & (ALL_CAME | WATCHED) == 0).then_some(now | sign));
     }
 
