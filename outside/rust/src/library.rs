@@ -35,8 +35,7 @@ fn mark(own: &mut OwnHandle) -> usize {
     ptr::from_mut(own) as usize
 }
 
-/// What `Library::returned` is if no place can be found, and if one may be. It may be where the mark
-/// of a call stands in place of these two.
+/// What `Library::returned` is if no place can be found, and if one may be.
 const NONE: usize = 0;
 const SOME: usize = 1;
 

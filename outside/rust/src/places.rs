@@ -1,4 +1,4 @@
-//! Which places of a pool are held, and what lies there.
+#![doc = include_str!("places/places.md")]
 pub(crate) mod fixed;
 pub(crate) mod growing;
 mod kept;

@@ -1,7 +1,5 @@
-//! Numbers of threads, and values that one thread at a time has by its number.
-//!
-//! While a thread runs, no other one has its number. It is a place of a pool of the proved library,
-//! which the thread holds from its first call to its end.
+//! Numbers of threads, and values that one thread at a time has by its number. A number is a place of
+//! a pool of the proved library, which its thread holds from its first call to its end.
 #[cfg(all(target_os = "linux", target_env = "gnu"))]
 mod late;
 pub(crate) mod slots;

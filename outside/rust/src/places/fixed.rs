@@ -1,5 +1,4 @@
-//! Which places of a fixed number are held. A thread keeps one that it returned, where others may
-//! take it: so a pull is refused only if all places were out at one moment.
+//! Which places of a fixed number are held.
 use super::kept::Kept;
 use crate::atomics::{fence, Ordering::SeqCst};
 use crate::library::calls::PAGE;
@@ -156,12 +155,7 @@ impl Fixed {
         })
     }
 
-    /// Pulls a place that a thread keeps or that the library has. `None` if all were out at a moment
-    /// of the library's refusal: no thread kept a place then, since none did before and after it,
-    /// and none kept one between.
-    ///
-    /// A thread keeps a place by a plain write, which it makes known before it looks itself. So of
-    /// two threads that return something and then look for what the other one returned, one finds it.
+    /// Pulls a place that a thread keeps or that the library has. `None` if all were out at one moment.
     #[cold]
     #[inline(never)]
     fn look(&self, handle: &mut OwnHandle) -> Option<Place> {

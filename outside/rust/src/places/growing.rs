@@ -1,5 +1,4 @@
-//! Which places of a pool that grows are held. A thread keeps some that it returned, by plain reads
-//! and writes. At its end it returns them.
+//! Which places of a pool that grows are held.
 mod find;
 mod parts;
 mod thread_slot;
@@ -29,8 +28,7 @@ pub(crate) struct Growing {
 /// What who makes an item reads.
 #[derive(Default)]
 struct News {
-    /// How often a part came to have a place that may be found. If no part had one, that is so until
-    /// there is one more change.
+    /// How often a part came to have a place that may be found.
     changes: AtomicUsize,
     /// The places whose items weren't made, since `init` panicked, and how many they are.
     bare: Mutex<Vec<usize>>,
@@ -39,8 +37,7 @@ struct News {
     pulled: status::Pulled,
 }
 
-/// The right to a place that was pulled just now. There is an item if the place was returned, and
-/// none if nobody had it, or if its `init` panicked.
+/// The right to a place that was pulled just now. It has no item if nobody had it, or `init` panicked.
 pub(crate) struct PulledPlace {
     pub(crate) at: usize,
     pub(crate) is_made: bool,
@@ -64,8 +61,7 @@ impl Growing {
         }
     }
 
-    /// Returns how many places there are, how many of them have an item, and how many were pulled
-    /// and not returned, as each part and each thread counts it.
+    /// Returns how many places there are, have an item, and were pulled and not returned.
     pub(crate) fn counts(&self) -> [usize; 3] {
         let parts = || self.parts.all(0).map(|(_, part)| part);
         let given: usize = parts().map(Part::given).sum();
@@ -86,8 +82,7 @@ impl Growing {
         }
     }
 
-    /// Pulls a place. `item` finds its item, if the thread doesn't keep it, and pulls it before if it
-    /// isn't pulled yet.
+    /// Pulls a place. `item` finds its item, if the thread doesn't keep it, and pulls it if need be.
     #[inline(always)]
     pub(crate) fn pull(self: &Arc<Self>, item: impl Fn(Option<PulledPlace>) -> Held) -> Held {
         threads::with_known(|number| {
@@ -116,8 +111,7 @@ impl Growing {
         item(mine.and_then(near))
     }
 
-    /// Pulls as many returned places as the thread may keep, but one. It only pulls, and who returns
-    /// places writes where it pulls them, so each of its pulls would wait for that.
+    /// Pulls as many returned places as a thread that only pulls may keep, but one.
     #[inline(never)]
     fn pull_ahead(&self, mine: Mine<'_>, item: impl Fn(Option<PulledPlace>) -> Held) {
         while mine.has_room() {
@@ -129,8 +123,7 @@ impl Growing {
         }
     }
 
-    /// Pulls a place that was returned, at the part of the thread's last pull, by its handle. `None`
-    /// if there is none of them.
+    /// Pulls a place that was returned, at the part of the thread's last pull, by its handle.
     #[inline(always)]
     fn pull_near(&self, mine: Mine<'_>) -> Option<PulledPlace> {
         let way = &mut *mine.way()?;
@@ -180,9 +173,7 @@ impl Growing {
         });
     }
 
-    /// Returns a place of a thread that keeps as many as it may, or isn't noted. If it only returns
-    /// places, so do those that it keeps but the last one: who pulls places writes where they go, so
-    /// each of many returns would wait for that.
+    /// Returns a place of a thread that keeps as many as it may, or isn't noted.
     ///
     /// # Safety
     ///
@@ -200,8 +191,7 @@ impl Growing {
         }
     }
 
-    /// Returns a place by the thread's handle of its part. If there is none, the place is returned as
-    /// `give_back_far` does.
+    /// Returns a place by the thread's handle of its part, or as `give_back_far` does.
     ///
     /// # Safety
     ///
@@ -221,8 +211,7 @@ impl Growing {
         }
     }
 
-    /// Keeps a place of a thread that isn't noted, which is noted then. Else this returns it by a
-    /// handle of its part, which is opened if it isn't.
+    /// Notes a thread, which keeps the place, or opens a handle of its part and returns it.
     ///
     /// # Safety
     ///

@@ -5,8 +5,6 @@ use crate::library::Place;
 use std::cell::Cell;
 
 /// A place that a thread keeps, or none, and how often it kept one: so others see that it did.
-/// Only the thread puts one there, if there is none. Whoever takes it out leaves the count, and so
-/// makes known what he returned before: who finds none here finds that.
 pub(super) struct Kept(AtomicU64);
 
 impl Kept {

@@ -1,4 +1,4 @@
-//! A pool whose items are made when they are first needed, by an initializer that may fail.
+#![doc = include_str!("lazy/lazy.md")]
 mod builder;
 mod error;
 #[allow(unsafe_code)]

@@ -1,5 +1,4 @@
-//! How a pull finds a place that its thread doesn't keep, and where none is found, one without an
-//! item.
+//! How a pull finds a place that its thread doesn't keep, or one without an item.
 use super::parts::Part;
 use super::thread_slot::{Mine, Way};
 use super::{Growing, PartName, PulledPlace};
@@ -32,8 +31,7 @@ impl Growing {
         Ok(found)
     }
 
-    /// Gives a place without an item, if no place was returned since the thread's last look, and the
-    /// thread's part has such a place.
+    /// Gives a place of the thread's part without an item, if none was returned since its last look.
     #[inline(always)]
     pub(super) fn unmade_near(&self, mine: Mine<'_>) -> Option<PulledPlace> {
         let way = &mut *mine.way()?;
@@ -43,8 +41,7 @@ impl Growing {
         Some(pulled)
     }
 
-    /// Finds a place that was returned. A place that others return and pull may pass by a look at all
-    /// parts, so there are more of them while some part says that one may be found.
+    /// Finds a place that was returned.
     fn find(&self, way: &mut Way) -> Option<PulledPlace> {
         for _ in 0..ROUNDS {
             let changes = self.changes_since_none(way)?;
@@ -57,16 +54,14 @@ impl Growing {
         None
     }
 
-    /// Returns how many changes there were. `None` if there was none since a look of the thread that
-    /// found no place.
+    /// Returns how many changes there were, if any since a look of the thread that found no place.
     #[inline(always)]
     fn changes_since_none(&self, way: &Way) -> Option<usize> {
         let changes = self.news.0.changes.load(SeqCst);
         (way.changes_at_none != Some(changes)).then_some(changes)
     }
 
-    /// Gives a place without an item: one whose `init` panicked, or one that nobody had, of the last
-    /// part of this shard. Fails as `pull_far` does.
+    /// Gives a place whose `init` panicked, or that nobody had. Fails as `pull_far` does.
     #[inline(always)]
     fn unmade(&self, way: &mut Way) -> Result<PulledPlace, Option<PartName>> {
         let unmade = |at| PulledPlace { at, is_made: false };
@@ -109,8 +104,7 @@ impl Growing {
         Ok(name.pulled(place))
     }
 
-    /// Leaves a place without an item to a later pull that makes one. If that is refused memory, the
-    /// place isn't used any more.
+    /// Leaves a place without an item to a later pull, or to none if memory is refused.
     ///
     /// # Safety
     ///

@@ -9,9 +9,7 @@ pub(super) const SHARDS: usize = 8;
 /// How many parts a shard may have, and how many of them lie in one table.
 const PARTS: usize = 128;
 const TABLE: usize = 32;
-/// How many parts have twice as many places each as the one before. From then on four parts have as
-/// many each: so a new one has room for a quarter of all before, and what it costs to hold all its
-/// places at first is shared by their items.
+/// How many parts have twice as many places each as the one before. From then on four have as many.
 const DOUBLING: usize = 6;
 
 /// A part of a pool, by a number of which each value names one.
@@ -126,9 +124,7 @@ impl<P> Parts<P> {
     }
 }
 
-/// Some places, each of which had an item since it was pulled first. At first all are held, and
-/// `fresh` ones are given one after the other. So what the library has free are places that were
-/// returned.
+/// Some places. At first all are held, and `fresh` ones are given one after the other.
 pub(super) struct Part {
     pub(super) library: Library,
     /// How many places were given as fresh ones.

@@ -10,8 +10,7 @@ use std::sync::atomic::{AtomicUsize, Ordering::Relaxed};
 const KEPT: usize = 8;
 /// How many it keeps where no thread keeps places: the next one has to be noted first.
 const UNUSED: usize = usize::MAX;
-/// How many places a thread pulls at one page, if others return them, and how far it goes then: the
-/// words of pages so far apart lie on cache lines of their own.
+/// How many places a thread pulls at one page, if others return them, and how far it goes then.
 const TOGETHER: usize = 8;
 const APART: usize = 17;
 /// After so many pulls a thread only pulls, if it returned no place between but what it keeps, and

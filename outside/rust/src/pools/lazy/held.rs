@@ -36,8 +36,7 @@ impl<'p, T, E> Held<'p, T, E> {
         Some(unsafe { Guard::new(pool, place) })
     }
 
-    /// Pulls a place, one with an item if it can. `None` if all were in use at one moment, or if
-    /// others come first.
+    /// Pulls a place as `Places::any` does.
     pub(super) fn any(pool: &'p LazyPool<T, E>) -> Got<'p, T, E> {
         Self::of(pool, pool.places.any())
     }
@@ -102,8 +101,7 @@ unsafe impl<T, E> Source for LazyPool<T, E> {
         value.item.as_mut().expect("a guard has an item")
     }
 
-    /// If the reset rejects the item or panics, or if the pool is closed, or the item too old, it is
-    /// dropped. The place is returned, also if something panics.
+    /// Resets the item, or drops it. The place is returned, also if something panics.
     #[inline(always)]
     unsafe fn end(&self, place: Place) {
         let mut held = Held { pool: self, place };

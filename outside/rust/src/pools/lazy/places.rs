@@ -13,8 +13,7 @@ pub(super) struct Closed;
 /// A place, if one is free, or that the pool is closed.
 pub(super) type Any = Option<Result<Place, Closed>>;
 
-/// The empty places and those with an item are two pools over the same numbers. Each place is held
-/// in at least one of them, and who pulled it from either has it alone.
+/// The empty places and those with an item: two pools over the same numbers.
 pub(super) struct Places {
     empty: Fixed,
     made: Fixed,
@@ -26,8 +25,7 @@ pub(super) struct Places {
     pub(super) queue: Queue,
 }
 
-/// How many places are empty and free, and in the upper half how often one came: if it is the same
-/// at two moments, and none was free, then none was free between them.
+/// How many places are empty and free, and in the upper half how often one came.
 struct Empties(AtomicU64);
 
 impl Empties {
@@ -50,8 +48,7 @@ impl Empties {
 }
 
 impl Places {
-    /// Creates so many empty places. Fails if there are none, or more than can be counted, or if
-    /// memory is refused.
+    /// Creates so many empty places, if they can be counted.
     pub(super) fn new(places: usize, order: Order) -> Result<Places, NewError> {
         let [empty, made] = [Fixed::new(places)?, Fixed::new(places)?];
         while made.pull().is_some() {} // no item is made yet
@@ -109,8 +106,7 @@ impl Places {
         (!stops).then(|| self.made.pull()).flatten()
     }
 
-    /// Pulls a place, one with an item if it can. `None` if all were in use at one moment, or if
-    /// others come first.
+    /// Pulls a place, one with an item if it can. `None` if all were in use, or others come first.
     pub(super) fn any(&self) -> Any {
         let may_pull = self.signs().load().only_minds(self.order);
         if let Some(place) = may_pull.then(|| self.pull_made()).flatten() {
@@ -132,9 +128,7 @@ impl Places {
         self.order == Order::FAIR
     }
 
-    /// Pulls a place, one with an item if it can. It is refused if no place with an item was free,
-    /// at a moment at which no empty one was: there was none before and after it, and none came
-    /// between.
+    /// Pulls a place as `any` does, also if others wait.
     #[cold]
     fn any_later(&self) -> Any {
         loop {
@@ -156,8 +150,7 @@ impl Places {
         }
     }
 
-    /// Waits for a place until the limit, with other threads of which any may come first. `None` if
-    /// a last try after the limit found none.
+    /// Waits for a place until the limit, in no order. `None` if a last try after it found none.
     pub(super) fn wait(&self, limit: Limit) -> Any {
         self.waiters.wait(limit, || self.any())
     }
@@ -167,8 +160,7 @@ impl Places {
         self.queue.enter(self.signs(), wake, || self.any_later())
     }
 
-    /// Returns a place, to which nobody comes from now on, and tells those that wait. Returns
-    /// whether the pool is closed.
+    /// Returns a place, and tells those that wait. Returns whether the pool is closed.
     ///
     /// # Safety
     ///

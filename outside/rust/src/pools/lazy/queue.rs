@@ -1,7 +1,4 @@
 //! Who waits for a place of a lazy pool in turn: tasks, and in a fair pool threads too.
-//!
-//! Who comes gets a ticket. A place that is free is handed to the first one without a place, under
-//! the lock, and is in use from then on. Wakers are called after the lock.
 use super::places::{Any, Closed};
 use super::signs::Signs;
 use crate::library::Place;
@@ -72,8 +69,7 @@ impl Queue {
         self.waiting.load(SeqCst) != 0
     }
 
-    /// Comes last, and returns the ticket. If nobody waits before it, it looks for a place. Who comes
-    /// after others needn't: each return since their look serves one. `None` if memory is refused.
+    /// Comes last, and returns the ticket. The first one looks for a place. `None` if memory is refused.
     pub(super) fn enter(
         &self,
         signs: &Signs,
@@ -93,8 +89,7 @@ impl Queue {
         Some(ticket)
     }
 
-    /// Hands a place to the first one that has none, and wakes it, if one waits and this finds a
-    /// place.
+    /// Hands a place to the first one that has none, and wakes it, if this finds a place.
     pub(super) fn hand(&self, signs: &Signs, look: impl FnOnce() -> Any) {
         let mut line = self.lock();
         let wake = self.hand_first(&mut line, signs, look);
@@ -133,8 +128,7 @@ impl Queue {
         ticket.saturating_sub(self.served.load(SeqCst))
     }
 
-    /// Takes the place that was handed to this ticket, or leaves a closed pool. Else it is woken so
-    /// from now on.
+    /// Takes the place that was handed to this ticket, or leaves a closed pool, or is woken so later.
     pub(super) fn take(&self, signs: &Signs, ticket: u64, wake: Option<Wake>) -> Any {
         let mut line = self.lock();
         if self.is_served(ticket) {

@@ -1,10 +1,4 @@
-//! The word of a lazy pool that each pull and each return reads: how many wait, whether the pool is
-//! closed, whether it minds more than a reset, and whether it is known that no item is made and free.
-//!
-//! A pull that found no such item, and is about to make one, sets `WATCHED`. A return of an item
-//! clears it, and counts one more in the upper half of the word. A look for such an item that began
-//! while `WATCHED` was set, and found none, sets `NONE_MADE`, if no return was counted since. So
-//! while `NONE_MADE` is set, each item whose return is over was pulled again.
+//! The word of a lazy pool that each pull and each return reads.
 use std::sync::atomic::{fence, AtomicU64, Ordering::SeqCst};
 
 const CLOSED: u64 = 1 << 31;

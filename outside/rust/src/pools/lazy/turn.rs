@@ -11,14 +11,11 @@ use std::thread;
 
 /// How often a thread looks whether a place was handed to it before it sleeps.
 const LOOKS: usize = 100;
-/// How often it looks so for the only place of a pool, and lets others run meanwhile, if it is one of
-/// the next so many. Nobody has that place while one to whom it was handed wakes up. Of more places
-/// others are in use then, and most threads run with no wait if those that wait sleep.
+/// How often one of the next so many looks for the only place of a pool, and lets others run between.
 const YIELDS: usize = 30;
 const NEXT: u64 = 8;
 
-/// A pull that waits for its turn. At its end it leaves the queue, and a place that was handed to
-/// it goes on to the next.
+/// A pull that waits for its turn. At its end it leaves the queue, and its place goes on to the next.
 pub(super) struct Turn<'p, T, E> {
     pool: &'p LazyPool<T, E>,
     ticket: Option<u64>,

@@ -1,14 +1,4 @@
 //! Threads that wait until a place is returned: an event count of two words, and where they sleep.
-//!
-//! A waiter counts itself, reads how many returns were told, tries once more, and sleeps only if
-//! none was told since. A return frees its place, and then reads whether anybody waits. Steps at
-//! these words are sequentially consistent, and a fence lies between them and those at places. So
-//! if a waiter's try missed the place, the return finds the waiter counted, and the waiter finds the
-//! return told.
-//!
-//! One sleeper at a time is woken: a return leaves it at that if one was woken that hasn't looked
-//! yet. So who slept while more than one return was told wakes the next when it has its place. One
-//! that gives up wakes the next too. `tests/waiting_model.rs` explores these steps.
 use super::signs::Signs;
 use std::sync::atomic::{AtomicBool, AtomicUsize, Ordering::SeqCst};
 use std::sync::{Condvar, Mutex, PoisonError};
@@ -23,8 +13,7 @@ pub(super) struct Waiters {
     pub(super) signs: Signs,
     /// How many returns were told, since somebody waited.
     told: AtomicUsize,
-    /// How many threads sleep, and whether one was woken that hasn't looked yet. They are changed
-    /// under the lock only.
+    /// How many threads sleep, and whether one was woken that hasn't looked yet, as the lock guards it.
     asleep: AtomicUsize,
     is_woken: AtomicBool,
     lock: Mutex<()>,
@@ -53,8 +42,7 @@ impl Waiters {
         }
     }
 
-    /// Sleeps until a return is told or the limit is over, or for no reason. Returns `false` if one
-    /// was told since `seen`, so that it didn't sleep.
+    /// Sleeps until a return is told or the limit is over. Returns `false` if one was told since `seen`.
     fn sleep(&self, seen: usize, limit: Limit) -> bool {
         let locked = self.lock.lock().unwrap_or_else(PoisonError::into_inner);
         self.asleep.fetch_add(1, SeqCst);
