@@ -4,9 +4,7 @@
 mod late;
 pub(crate) mod slots;
 
-use crate::library::calls::Handle;
-use crate::places::growing::Growing;
-use crate::refuse;
+use crate::{library::calls::Handle, places::growing::Growing, pools::guard::AtEnd, refuse};
 use std::cell::{Cell, RefCell};
 use std::marker::PhantomData;
 use std::sync::{Mutex, MutexGuard, PoisonError, Weak};
@@ -40,11 +38,6 @@ thread_local! {
 pub(crate) struct Number(usize, PhantomData<*const ()>);
 
 impl Number {
-    #[inline(always)]
-    fn new(number: usize) -> Number {
-        Number(number, PhantomData)
-    }
-
     /// Returns the number, of which there are `NUMBERS`, or one that is none of them.
     #[inline(always)]
     pub(crate) fn get(&self) -> usize {
@@ -52,36 +45,23 @@ impl Number {
     }
 }
 
-/// A number that goes back to its thread at the end of a call.
-struct Lent(Number);
-
-impl Drop for Lent {
-    #[inline(always)]
-    fn drop(&mut self) {
-        KNOWN.set(self.0 .0);
-    }
-}
-
 /// Makes this call with the thread's number, if that is known. A call within it has that number too.
 #[inline(always)]
 pub(crate) fn with_known<A>(call: impl FnOnce(&Number) -> A) -> A {
-    call(&Number::new(KNOWN.get()))
+    call(&Number(KNOWN.get(), PhantomData))
 }
 
 /// Makes this call with the thread's number. There is none if all are out, at the thread's end, and
 /// in a call within a call.
 #[inline(always)]
 pub(crate) fn with<A>(call: impl FnOnce(Option<&Number>) -> A) -> A {
-    let known = match KNOWN.get() {
-        known if known < NUMBERS => known,
-        _ => find(),
-    };
-    if known < NUMBERS {
-        KNOWN.set(WITHIN);
-        call(Some(&Lent(Number::new(known)).0))
-    } else {
-        call(None)
+    let known = Some(KNOWN.get()).filter(|known| *known < NUMBERS).unwrap_or_else(find);
+    if known >= NUMBERS {
+        return call(None);
     }
+    KNOWN.set(WITHIN);
+    let lent = AtEnd(Number(known, PhantomData), |number| KNOWN.set(number.0));
+    call(Some(&lent.0))
 }
 
 /// Asks for a number, if the thread has none. Returns what it has then.
@@ -116,7 +96,6 @@ impl<T> Owned<T> {
         Owned { number: number.0, value }
     }
 
-    /// Borrows the value, by its number.
     #[inline(always)]
     pub(crate) fn get<'o>(&'o self, number: &'o Number) -> &'o T {
         if self.number != number.0 {
@@ -173,13 +152,13 @@ impl Holder {
     /// Pulls a number for the thread, whose end returns it.
     fn pull(&self) -> usize {
         #[cfg(all(target_os = "linux", target_env = "gnu"))]
-        late::watch();
+        late::watch(true);
         pull_number().unwrap_or(NONE)
     }
 
     /// Returns what the thread keeps, and then its number.
     fn end(&self) {
-        let number = Number::new(KNOWN.replace(ENDED));
+        let number = Number(KNOWN.replace(ENDED), PhantomData);
         let pools = self.0.take().into_iter();
         for pool in pools.filter_map(|pool| pool.upgrade()) {
             pool.return_kept(&number);
@@ -194,15 +173,9 @@ impl Holder {
 impl Drop for Holder {
     fn drop(&mut self) {
         #[cfg(all(target_os = "linux", target_env = "gnu"))]
-        late::forget();
+        late::watch(false);
         self.end();
     }
-}
-
-/// Ends what a thread has that came after the ends of its thread locals.
-#[cfg(all(target_os = "linux", target_env = "gnu"))]
-fn end_late() {
-    let _ = HOLDER.try_with(Holder::end);
 }
 
 /// Notes a pool where this thread keeps places, until its end. `None` if memory is refused.

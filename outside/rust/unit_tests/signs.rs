@@ -7,17 +7,17 @@ fn look(signs: &Signs) {
 }
 
 fn is_known(signs: &Signs) -> bool {
-    signs.load().says_none_made()
+    signs.load().has(NONE_MADE)
 }
 
 #[test]
 fn the_first_look_is_watched_and_the_second_is_known() {
     let signs = Signs::default();
-    assert!(!signs.load().stops_pull(Order::ANY));
+    assert!(!signs.load().has(Order::ANY.0));
     look(&signs);
-    assert!(!is_known(&signs) && signs.load().stops_pull(Order::ANY) && !signs.load().is_clear());
+    assert!(!is_known(&signs) && signs.load().has(Order::ANY.0) && signs.load().has(TOLD));
     look(&signs);
-    assert!(is_known(&signs) && signs.load().stops_pull(Order::ANY));
+    assert!(is_known(&signs) && signs.load().has(Order::ANY.0));
 }
 
 #[test]
@@ -28,9 +28,7 @@ fn a_return_ends_what_is_known() {
         look(&signs);
         assert!(is_known(&signs));
         signs.made_came();
-        assert!(
-            !is_known(&signs) && !signs.load().stops_pull(Order::ANY) && signs.load().is_clear()
-        );
+        assert!(!is_known(&signs) && !signs.load().has(Order::ANY.0) && !signs.load().has(TOLD));
     }
 }
 
@@ -45,9 +43,9 @@ fn a_look_before_a_return_says_nothing() {
             look(&signs);
             signs.made_came();
             (0..others).for_each(|_| look(&signs));
-            let before = (is_known(&signs), signs.load().stops_pull(Order::ANY));
+            let before = (is_known(&signs), signs.load().has(Order::ANY.0));
             signs.none_found(begun);
-            let is_same = (is_known(&signs), signs.load().stops_pull(Order::ANY)) == before;
+            let is_same = (is_known(&signs), signs.load().has(Order::ANY.0)) == before;
             assert!(is_same, "{others} looks of others, {own} before");
         }
     }
@@ -61,12 +59,12 @@ fn the_counts_are_apart() {
         look(&signs);
         signs.made_came();
         assert_eq!(signs.load().waiting(), waiting);
-        assert!(!signs.load().is_closed() && !signs.load().is_clear());
-        assert!(!signs.load().stops_pull(Order::ANY));
+        assert!(!signs.load().is_closed() && signs.load().has(TOLD));
+        assert!(!signs.load().has(Order::ANY.0));
     }
     signs.close();
     assert_eq!((signs.load().waiting(), signs.load().is_closed()), (4, true));
     (0..4).for_each(|_| signs.leave());
     assert_eq!(signs.load().waiting(), 0);
-    assert!(signs.load().is_closed() && signs.load().stops_pull(Order::ANY));
+    assert!(signs.load().is_closed() && signs.load().has(Order::ANY.0));
 }

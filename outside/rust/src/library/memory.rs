@@ -1,31 +1,20 @@
 //! The proved code, as a text for the assembler, and the memory that it asks for, which is the C
 //! library's.
-use std::arch::global_asm;
-use std::ffi::c_void;
-use std::ptr::NonNull;
+use std::{arch::global_asm, ffi::c_void, ptr::NonNull};
 
-#[cfg(all(target_os = "linux", target_arch = "x86_64"))]
-global_asm!(
-    include_str!("../../assembly/x86_64.s"),
-    options(att_syntax, raw)
-);
-#[cfg(all(target_os = "linux", target_arch = "aarch64"))]
-global_asm!(include_str!("../../assembly/aarch64.s"), options(raw));
-#[cfg(target_os = "windows")]
-global_asm!(
-    include_str!("../../assembly/x86_64_windows.s"),
-    options(att_syntax, raw)
-);
-#[cfg(all(target_os = "macos", target_arch = "x86_64"))]
-global_asm!(
-    include_str!("../../assembly/x86_64_macos.s"),
-    options(att_syntax, raw)
-);
-#[cfg(all(target_os = "macos", target_arch = "aarch64"))]
-global_asm!(
-    include_str!("../../assembly/aarch64_macos.s"),
-    options(raw)
-);
+/// Takes the text of the proved code for a target.
+macro_rules! text {
+    ($target:meta, $file:literal, $($option:ident),+) => {
+        #[cfg($target)]
+        global_asm!(include_str!(concat!("../../assembly/", $file)), options($($option),+));
+    };
+}
+
+text!(all(target_os = "linux", target_arch = "x86_64"), "x86_64.s", att_syntax, raw);
+text!(all(target_os = "linux", target_arch = "aarch64"), "aarch64.s", raw);
+text!(target_os = "windows", "x86_64_windows.s", att_syntax, raw);
+text!(all(target_os = "macos", target_arch = "x86_64"), "x86_64_macos.s", att_syntax, raw);
+text!(all(target_os = "macos", target_arch = "aarch64"), "aarch64_macos.s", raw);
 
 /// Names a function for the code above. No other crate sees the name.
 macro_rules! name {
@@ -96,11 +85,8 @@ struct Got {
 }
 
 fn got(at: *mut c_void) -> Got {
-    let at = NonNull::new(at);
-    Got {
-        is_some: usize::from(at.is_some()),
-        at: at.unwrap_or(NonNull::dangling()),
-    }
+    let is_some = usize::from(!at.is_null());
+    Got { is_some, at: NonNull::new(at).unwrap_or(NonNull::dangling()) }
 }
 
 /// The size to ask for: a block of no bytes has an address too.

@@ -83,23 +83,20 @@ impl Places {
     /// Takes a place, after none was seen at this page. `None` if all were in use at one moment.
     #[inline(never)]
     fn pull_further(&self, start: usize) -> Option<usize> {
-        let mut before = match self.pull_beside(start) {
-            Ok(place) => return Some(place),
-            Err(returns) => returns,
-        };
+        let mut before = None;
         loop {
+            let returns = match self.pull_beside(start) {
+                Ok(place) => return Some(place),
+                Err(returns) => returns,
+            };
+            if before == Some((0, returns)) {
+                return None;
+            }
             let (seen, _) = self.look(start);
             if let Some(place) = self.take_lowest(start, seen) {
                 return Some(place);
             }
-            let after = match self.pull_beside(start) {
-                Ok(place) => return Some(place),
-                Err(returns) => returns,
-            };
-            if seen == 0 && after == before {
-                return None;
-            }
-            before = after;
+            before = Some((seen, returns));
         }
     }
 

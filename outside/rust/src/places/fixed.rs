@@ -1,19 +1,14 @@
 //! Which places of a fixed number are held.
 use super::kept::Kept;
 use crate::atomics::{fence, Ordering::SeqCst};
-use crate::library::calls::PAGE;
-use crate::library::{Library, OwnHandle, Place};
-use crate::places::slots::OwnLines;
-use crate::pools::pool::NewError;
-use crate::status::Pulled;
-use crate::threads::slots::ThreadSlots;
-use crate::threads::{self, Number, Owned};
+use crate::library::{calls::PAGE, Library, OwnHandle, Place};
+use crate::threads::{self, slots::ThreadSlots, Number, Owned};
+use crate::{places::slots::OwnLines, pools::pool::NewError, status::Pulled};
 use std::cell::{Cell, RefCell};
 
 /// How many places a thread pulls at one page, if others return them.
 const TOGETHER: isize = 4;
 
-/// The places of a pool.
 pub(crate) struct Fixed {
     library: OwnLines<Library>,
     thread_slots: ThreadSlots<OwnLines<ThreadSlot>>,
@@ -74,7 +69,12 @@ impl Fixed {
     /// Pulls a place. `None` if all were out at one moment.
     #[inline(always)]
     pub(crate) fn pull(&self) -> Option<Place> {
-        let kept = threads::with_known(|number| self.thread_slots.get(number)?.0.take_own(number));
+        let kept = threads::with_known(|number| {
+            let OwnLines(slot) = self.thread_slots.get(number)?;
+            let place = slot.kept.take_own(slot.own.get(number).empty.get())?;
+            slot.pulled.add_own(1);
+            Some(place)
+        });
         kept.or_else(|| self.pull_further())
     }
 
@@ -102,9 +102,11 @@ impl Fixed {
     /// The place is of this pool.
     #[inline(always)]
     pub(crate) unsafe fn give_back(&self, place: Place) {
-        let kept = threads::with_known(|number| match self.thread_slots.get(number) {
-            Some(thread_slot) => thread_slot.0.keep(place, number),
-            None => Err(place),
+        let kept = threads::with_known(|number| {
+            let Some(OwnLines(slot)) = self.thread_slots.get(number) else { return Err(place) };
+            slot.kept.keep(place, &slot.own.get(number).empty)?;
+            slot.pulled.add_own(-1);
+            Ok(())
         });
         if let Err(place) = kept {
             // SAFETY: the caller says that it is of this pool.
@@ -138,26 +140,18 @@ impl Fixed {
     /// Returns what a thread has, which is made if it isn't there. `None` if memory is refused.
     fn own<'o>(&'o self, number: &'o Number) -> Option<(&'o ThreadSlot, &'o Own)> {
         let thread_slot = self.thread_slots.get(number);
-        let new = || self.thread_slots.make(number, self.new_thread_slot(number));
+        let new = || {
+            let way = Way::new(number.get(), self.places().div_ceil(PAGE), self.library.0.open());
+            let own = Own { empty: Cell::new(Kept::NONE), way: RefCell::new(way) };
+            let (kept, pulled, own) = (Kept::new(), Pulled::default(), Owned::new(number, own));
+            self.thread_slots.make(number, OwnLines(ThreadSlot { kept, pulled, own }))
+        };
         let OwnLines(thread_slot) = thread_slot.or_else(new)?;
         Some((thread_slot, thread_slot.own.get(number)))
     }
 
-    #[cold]
-    fn new_thread_slot(&self, number: &Number) -> OwnLines<ThreadSlot> {
-        let mut way = Way::new(number.get(), self.places().div_ceil(PAGE));
-        way.handle = self.library.0.open();
-        let own = Own { empty: Cell::new(Kept::NONE), way: RefCell::new(way) };
-        OwnLines(ThreadSlot {
-            kept: Kept::new(),
-            pulled: Pulled::default(),
-            own: Owned::new(number, own),
-        })
-    }
-
     /// Pulls a place that a thread keeps or that the library has. `None` if all were out at one moment.
     #[cold]
-    #[inline(never)]
     fn look(&self, handle: &mut OwnHandle) -> Option<Place> {
         fence(SeqCst);
         let mut before = self.take_kept();
@@ -188,34 +182,15 @@ impl Fixed {
     }
 }
 
-impl ThreadSlot {
-    /// Takes the place that the thread keeps, for the thread itself.
-    #[inline(always)]
-    fn take_own(&self, number: &Number) -> Option<Place> {
-        let place = self.kept.take_own(self.own.get(number).empty.get())?;
-        self.pulled.add_own(1);
-        Some(place)
-    }
-
-    /// Keeps a place, if the thread keeps none.
-    #[inline(always)]
-    fn keep(&self, place: Place, number: &Number) -> Result<(), Place> {
-        self.kept.keep(place, &self.own.get(number).empty)?;
-        self.pulled.add_own(-1);
-        Ok(())
-    }
-}
-
 impl Way {
     /// Creates the way of a thread to so many pages.
-    fn new(number: usize, pages: usize) -> Way {
+    fn new(number: usize, pages: usize, handle: OwnHandle) -> Way {
         // Threads begin so far apart that the words of their pages lie on cache lines of their own.
         let far = if pages % 17 == 0 { 1 } else { 17 };
         let begin = (number + 1) * far;
-        Way { handle: None, page: begin % pages, begin, moves: 0, left: TOGETHER }
+        Way { handle, page: begin % pages, begin, moves: 0, left: TOGETHER }
     }
 
-    /// Pulls a place of the library.
     #[inline(always)]
     fn pull(&mut self, library: &Library) -> Option<Place> {
         let place = library.pull_once(&mut self.handle, self.page)?;

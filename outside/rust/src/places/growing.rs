@@ -3,22 +3,16 @@ mod find;
 mod parts;
 mod thread_slot;
 
-use crate::atomics::AtomicUsize;
-use crate::atomics::{Ordering::Relaxed, Ordering::SeqCst};
-use crate::library::calls::PAGE;
-use crate::library::{OwnHandle, Place};
-use crate::places::slots::OwnLines;
-use crate::refuse;
-use crate::status;
-use crate::threads::slots::ThreadSlots;
+use crate::atomics::{AtomicUsize, Ordering::Relaxed, Ordering::SeqCst};
+use crate::library::{calls::PAGE, OwnHandle, Place};
 use crate::threads::{self, Number};
+use crate::{places::slots::OwnLines, refuse, status, threads::slots::ThreadSlots};
 use parts::Part;
 pub(crate) use parts::{PartName, Parts};
 use std::ptr::NonNull;
 use std::sync::{Arc, Mutex};
 use thread_slot::{Mine, ThreadSlot, Way};
 
-/// The places of a pool.
 pub(crate) struct Growing {
     parts: Parts<Part>,
     thread_slots: ThreadSlots<OwnLines<ThreadSlot>>,
@@ -140,16 +134,20 @@ impl Growing {
     /// Pulls a place that was returned, or one without an item. If there is none, this returns which
     /// part has to be made, or `None` if there are too many.
     #[cold]
-    #[inline(never)]
     pub(crate) fn pull_far(self: &Arc<Self>) -> Result<PulledPlace, Option<PartName>> {
         threads::with(|number| {
             let mine = number.and_then(|number| self.mine_or_new(number));
             if let Some(mine) = mine.filter(|mine| !mine.is_noted()) {
                 self.note(mine); // where that is refused memory, it comes here again
             }
+            let look = |way: &mut Way, mine: Option<Mine<'_>>| {
+                let Some(found) = self.find(way) else { return self.unmade(way) };
+                mine.into_iter().for_each(Mine::count_pull);
+                Ok(found)
+            };
             let pulled = match mine.and_then(Mine::way) {
-                Some(mut way) => self.find_or_unmade(&mut way, mine),
-                None => self.find_or_unmade(&mut Way::new(PartName::first(0), false), None),
+                Some(mut way) => look(&mut way, mine),
+                None => look(&mut Way::new(PartName::first(0), false), None),
             };
             pulled.inspect(|_| self.count(mine, 1))
         })
@@ -273,7 +271,6 @@ impl Growing {
         }
     }
 
-    /// Returns what a thread keeps, at its end.
     pub(crate) fn return_kept(self: &Arc<Self>, number: &Number) {
         if let Some(ended) = self.mine(number) {
             self.return_all(ended);
@@ -286,7 +283,6 @@ impl Growing {
         self.parts.make(name, || Part::new(places))
     }
 
-    /// Returns a thread's slot, if it was made.
     #[inline(always)]
     fn mine<'s>(&'s self, number: &'s Number) -> Option<Mine<'s>> {
         Some(self.thread_slots.get(number)?.0.mine(number))
@@ -299,7 +295,6 @@ impl Growing {
         self.mine(number).or_else(made)
     }
 
-    /// Returns a part that has places.
     #[inline(always)]
     fn part(&self, name: PartName) -> &Part {
         self.parts.get(name).unwrap_or_else(|| refuse())

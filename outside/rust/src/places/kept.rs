@@ -1,6 +1,5 @@
 //! A place that a thread of a fixed pool keeps, where others may take it.
-use crate::atomics::AtomicU64;
-use crate::atomics::{Ordering::AcqRel, Ordering::Acquire, Ordering::Release};
+use crate::atomics::{AtomicU64, Ordering::AcqRel, Ordering::Acquire, Ordering::Release};
 use crate::library::Place;
 use std::cell::Cell;
 
@@ -22,7 +21,7 @@ impl Kept {
             let empty = seen | Kept::NONE;
             match self.0.compare_exchange(seen, empty, AcqRel, Acquire) {
                 // SAFETY: it was kept here, and nobody else took it.
-                Ok(_) => return Ok(unsafe { Kept::place(seen) }),
+                Ok(_) => return Ok(unsafe { Place::held((seen & Kept::NONE) as usize) }),
                 Err(now) => seen = now,
             }
         }
@@ -37,18 +36,7 @@ impl Kept {
         }
         let seen = self.0.swap(empty, AcqRel);
         // SAFETY: it was kept here, and no other thread took it.
-        (seen != empty).then(|| unsafe { Kept::place(seen) })
-    }
-
-    /// Takes over the right to the place that is kept in a word.
-    ///
-    /// # Safety
-    ///
-    /// The place was taken out just now.
-    #[inline(always)]
-    unsafe fn place(word: u64) -> Place {
-        // SAFETY: who kept it had it, and nobody else has it now.
-        unsafe { Place::held((word & Kept::NONE) as usize) }
+        (seen != empty).then(|| unsafe { Place::held((seen & Kept::NONE) as usize) })
     }
 
     /// Keeps a place for the thread itself, and counts it, or returns it if there is one.

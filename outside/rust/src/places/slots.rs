@@ -1,8 +1,7 @@
 //! What lies at the places of a pool.
 use crate::refuse;
 use std::alloc::{alloc_zeroed, Layout};
-use std::cell::UnsafeCell;
-use std::ptr::NonNull;
+use std::{cell::UnsafeCell, ptr::NonNull};
 
 /// A value at a place. Who holds the place reaches it.
 struct Slot<V>(UnsafeCell<V>);
@@ -66,12 +65,4 @@ impl<V> Slots<V> {
     pub(crate) fn at(&self, place: usize) -> *mut V {
         self.0.get(place).unwrap_or_else(|| refuse()).0.get()
     }
-}
-
-/// Creates so many values. `None` if memory is refused.
-pub(crate) fn filled<V>(length: usize, value: impl FnMut() -> V) -> Option<Vec<V>> {
-    let mut values = Vec::new();
-    values.try_reserve_exact(length).ok()?;
-    values.resize_with(length, value);
-    Some(values)
 }

@@ -1,11 +1,8 @@
 //! An item that is held.
 use crate::library::Place;
 use std::fmt::{self, Debug, Formatter};
-use std::marker::PhantomData;
-use std::mem::ManuallyDrop;
 use std::ops::{Deref, DerefMut};
-use std::ptr;
-use std::sync::Arc;
+use std::{marker::PhantomData, mem::ManuallyDrop, ptr, sync::Arc};
 
 /// A pool whose items are held by guards. Only this crate's pools are such.
 ///
@@ -64,7 +61,6 @@ impl<P: Deref<Target: Source<Item = T, At = A>>, T, A> Unpin for Guard<P, T, A> 
 
 impl<S: Source> Guard<&S, S::Item, S::At> {
     /// Changes to a guard that keeps the pool, of which this is an owner.
-    #[inline(always)]
     pub(crate) fn owned(self, pool: &Arc<S>) -> Guard<Arc<S>, S::Item, S::At> {
         let pool = Arc::clone(pool);
         let mut this = ManuallyDrop::new(self);

@@ -1,15 +1,11 @@
 //! A pool that grows, by the names of lockfree-object-pool 0.1.6.
 use crate::places::growing::{Growing, Held, PartName, Parts, PulledPlace};
-use crate::places::slots::Slots;
 use crate::pools::guard::{AtEnd, Guard, Source};
-use crate::pools::pool::Reset;
-use crate::refuse;
-use crate::status::Status;
+use crate::{places::slots::Slots, pools::pool::Reset, refuse, status::Status};
 use std::alloc::{handle_alloc_error, Layout};
 use std::fmt::{self, Debug, Formatter};
 use std::mem::{self, MaybeUninit};
-use std::ptr::NonNull;
-use std::sync::Arc;
+use std::{ptr::NonNull, sync::Arc};
 
 /// An item that was pulled under a borrow of its [`LinearObjectPool`].
 pub type LinearReusable<'a, T> = Guard<&'a LinearObjectPool<T>, T, At<T>>;
@@ -55,7 +51,6 @@ unsafe impl<T> Sync for At<T> {}
 /// ```
 pub struct LinearObjectPool<T> {
     places: Arc<Growing>,
-    /// What lies at the places of each part.
     parts: Parts<Slots<Item<T>>>,
     init: Box<dyn Fn() -> T + Send + Sync>,
     reset: Reset<T>,
@@ -85,11 +80,8 @@ impl<T> LinearObjectPool<T> {
     }
 
     /// Returns an item as [`pull`](LinearObjectPool::pull) does, with a guard that keeps the pool.
-    #[inline(always)]
     pub fn pull_owned(self: &Arc<Self>) -> LinearOwnedReusable<T> {
-        let held = self.places.pull(|pulled| self.find(pulled));
-        // SAFETY: the place was pulled from this pool, which has this owner.
-        unsafe { Guard::new(Arc::clone(self), At(held.item.cast())) }
+        self.pull().owned(self)
     }
 
     /// Returns how many items have room now, are made, and are in use. Nobody waits.
@@ -127,7 +119,6 @@ impl<T> LinearObjectPool<T> {
     /// Makes the item of a place that was pulled. If that panics, the place is left to a later pull
     /// that makes one.
     #[cold]
-    #[inline(never)]
     fn make_item(&self, pulled: PulledPlace, value: &mut Item<T>) -> usize {
         let at = pulled.at;
         let bare = AtEnd(Some(pulled), |pulled| {
@@ -143,20 +134,16 @@ impl<T> LinearObjectPool<T> {
 
     /// Pulls a place of any part. One is made if there is none.
     #[cold]
-    #[inline(never)]
     fn pull_far(&self) -> PulledPlace {
         loop {
-            match self.places.pull_far() {
+            let made = match self.places.pull_far() {
                 Ok(pulled) => return pulled,
-                Err(name) => match name.and_then(|name| self.make(name)) {
-                    Some(()) => {}
-                    None => handle_alloc_error(Layout::new::<T>()),
-                },
-            }
+                Err(name) => name.and_then(|name| self.make(name)),
+            };
+            made.unwrap_or_else(|| handle_alloc_error(Layout::new::<T>()));
         }
     }
 
-    /// Returns where the item of a place lies.
     #[inline(always)]
     fn slot(&self, at: usize) -> *mut Item<T> {
         let (name, place) = PartName::of(at);

@@ -1,13 +1,9 @@
 //! The pool of a fixed number of items.
-use crate::library::Place;
-use crate::places::fixed::Fixed;
-use crate::places::slots::Slots;
 use crate::pools::guard::{Guard, Source};
-use crate::pools::or_else::OrElse;
-use crate::status::Status;
-use std::collections::TryReserveError;
+use crate::{library::Place, places::fixed::Fixed, places::slots::Slots};
+use crate::{pools::or_else::OrElse, status::Status};
 use std::fmt::{self, Debug, Display, Formatter};
-use std::{error::Error, iter, ops::Deref, sync::Arc};
+use std::{collections::TryReserveError, error::Error, iter, ops::Deref, sync::Arc};
 
 /// A reset of any closure.
 pub type Reset<T> = Box<dyn Fn(&mut T) + Send + Sync>;
@@ -74,7 +70,6 @@ impl<T, R: Fn(&mut T)> Pool<T, R> {
     }
 
     /// Returns an item as [`pull`](Pool::pull) does, with a guard that keeps the pool.
-    #[inline(always)]
     pub fn pull_owned(self: &Arc<Self>) -> Option<OwnedReusable<T, R>> {
         self.pull().map(|guard| guard.owned(self))
     }

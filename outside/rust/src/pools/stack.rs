@@ -9,7 +9,6 @@ use std::{hint::spin_loop, mem::ManuallyDrop};
 
 /// A list of values behind a lock.
 pub trait Stack<T> {
-    /// Makes this call with the list.
     #[doc(hidden)]
     fn with<A>(&self, call: impl FnOnce(&mut Vec<T>) -> A) -> A;
 }
@@ -22,21 +21,18 @@ impl<T> Stack<T> for Mutex<Vec<T>> {
 
 /// A list behind a lock whose taker asks again and again.
 #[derive(Debug)]
-pub struct SpinLock<T> {
-    list: Mutex<Vec<T>>,
-}
+pub struct SpinLock<T>(Mutex<Vec<T>>);
 
 impl<T> Default for SpinLock<T> {
     fn default() -> SpinLock<T> {
-        let list = Mutex::default();
-        SpinLock { list }
+        SpinLock(Mutex::default())
     }
 }
 
 impl<T> Stack<T> for SpinLock<T> {
     fn with<A>(&self, call: impl FnOnce(&mut Vec<T>) -> A) -> A {
         loop {
-            match self.list.try_lock() {
+            match self.0.try_lock() {
                 Ok(mut list) => return call(&mut list),
                 Err(TryLockError::Poisoned(list)) => return call(&mut list.into_inner()),
                 Err(TryLockError::WouldBlock) => spin_loop(),

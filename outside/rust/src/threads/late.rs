@@ -14,10 +14,11 @@ unsafe extern "C" {
 static KEY: OnceLock<Option<u32>> = OnceLock::new();
 
 extern "C" fn end(_: *mut c_void) {
-    super::end_late();
+    let _ = super::HOLDER.try_with(super::Holder::end);
 }
 
-fn set(value: *const c_void) {
+/// Watches this thread's end, also where its thread locals have ended, or watches it no more.
+pub(super) fn watch(is_watched: bool) {
     let key = KEY.get_or_init(|| {
         let mut key = 0;
         // SAFETY: the destructor needs no value. While a thread has one, this crate's code stays
@@ -26,16 +27,8 @@ fn set(value: *const c_void) {
         (answer == 0).then_some(key)
     });
     if let Some(key) = key {
+        let value =
+            if is_watched { NonNull::<c_void>::dangling().as_ptr() } else { ptr::null_mut() };
         pthread_setspecific(*key, value);
     }
-}
-
-/// From now on this thread's end is watched, also where its thread locals have ended.
-pub(super) fn watch() {
-    set(NonNull::<c_void>::dangling().as_ptr());
-}
-
-/// The thread's locals end, so nothing is left to do.
-pub(super) fn forget() {
-    set(ptr::null());
 }

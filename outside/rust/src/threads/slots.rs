@@ -1,6 +1,5 @@
 //! What each thread has of a pool, by its number.
 use crate::once::OnceBox;
-use crate::places::slots::filled;
 use crate::threads::{Number, FIRST, GROUPS};
 
 /// The slots of threads in a pool: each is made when its thread first needs it.
@@ -18,7 +17,6 @@ impl<S> ThreadSlots<S> {
         }
     }
 
-    /// Returns the thread slot of a number, if it was made.
     #[inline(always)]
     pub(crate) fn get(&self, number: &Number) -> Option<&S> {
         match self.first.get(number.get()) {
@@ -42,7 +40,9 @@ impl<S> ThreadSlots<S> {
             return first.set(thread_slot);
         }
         let group = (number.get() / FIRST).ilog2();
-        let thread_slots = filled(FIRST << group, OnceBox::new)?;
+        let mut thread_slots = Vec::new();
+        thread_slots.try_reserve_exact(FIRST << group).ok()?;
+        thread_slots.resize_with(FIRST << group, OnceBox::new);
         self.groups[group as usize].set(thread_slots)?;
         self.later(number.get())?.set(thread_slot)
     }

@@ -1,5 +1,4 @@
 //! How a pull finds a place that its thread doesn't keep, or one without an item.
-use super::parts::Part;
 use super::thread_slot::{Mine, Way};
 use super::{Growing, PartName, PulledPlace};
 use crate::atomics::{Ordering::Relaxed, Ordering::SeqCst};
@@ -9,7 +8,7 @@ use std::sync::PoisonError;
 /// How often all parts are looked at before a fresh place is given, if others return places.
 const ROUNDS: usize = 32;
 
-/// What a look at a part or at all parts found.
+/// What a look at all parts found.
 enum Look {
     Found(PulledPlace),
     /// Some part said that a place was returned, but others had pulled it.
@@ -18,19 +17,6 @@ enum Look {
 }
 
 impl Growing {
-    /// Finds a place that was returned, or gives one without an item, or fails as `pull_far` does.
-    pub(super) fn find_or_unmade(
-        &self,
-        way: &mut Way,
-        mine: Option<Mine<'_>>,
-    ) -> Result<PulledPlace, Option<PartName>> {
-        let Some(found) = self.find(way) else {
-            return self.unmade(way);
-        };
-        mine.into_iter().for_each(Mine::count_pull);
-        Ok(found)
-    }
-
     /// Gives a place of the thread's part without an item, if none was returned since its last look.
     #[inline(always)]
     pub(super) fn unmade_near(&self, mine: Mine<'_>) -> Option<PulledPlace> {
@@ -42,7 +28,7 @@ impl Growing {
     }
 
     /// Finds a place that was returned.
-    fn find(&self, way: &mut Way) -> Option<PulledPlace> {
+    pub(super) fn find(&self, way: &mut Way) -> Option<PulledPlace> {
         for _ in 0..ROUNDS {
             let changes = self.changes_since_none(way)?;
             match self.look(way) {
@@ -63,7 +49,7 @@ impl Growing {
 
     /// Gives a place whose `init` panicked, or that nobody had. Fails as `pull_far` does.
     #[inline(always)]
-    fn unmade(&self, way: &mut Way) -> Result<PulledPlace, Option<PartName>> {
+    pub(super) fn unmade(&self, way: &mut Way) -> Result<PulledPlace, Option<PartName>> {
         let unmade = |at| PulledPlace { at, is_made: false };
         if let Some(at) = self.take_bare() {
             return Ok(unmade(at));
@@ -77,31 +63,23 @@ impl Growing {
         Err(Some(way.last))
     }
 
-    /// Looks at each part.
+    /// Looks at each part that says that a place was returned.
     fn look(&self, way: &mut Way) -> Look {
         let mut look = Look::Empty;
         let home = way.last.shard();
         for (name, part) in self.parts.all(home) {
-            match self.pull_at(name, part, way) {
-                Ok(pulled) => return Look::Found(pulled),
-                Err(Look::Empty) => {}
-                Err(refused) => look = refused,
+            if !part.library.may_have_some() {
+                continue;
             }
+            let page = way.page;
+            if let Some(place) = part.library.pull(way.handle(name, &part.library), page) {
+                way.part = Some(name);
+                way.go_on(place.number() / PAGE, part.pages());
+                return Look::Found(name.pulled(place));
+            }
+            look = Look::Refused;
         }
         look
-    }
-
-    /// Pulls a place of a part, if it says that one was returned.
-    fn pull_at(&self, name: PartName, part: &Part, way: &mut Way) -> Result<PulledPlace, Look> {
-        if !part.library.may_have_some() {
-            return Err(Look::Empty);
-        }
-        let page = way.page;
-        let place = part.library.pull(way.handle(name, &part.library), page);
-        let place = place.ok_or(Look::Refused)?;
-        way.part = Some(name);
-        way.go_on(place.number() / PAGE, part.pages());
-        Ok(name.pulled(place))
     }
 
     /// Leaves a place without an item to a later pull, or to none if memory is refused.

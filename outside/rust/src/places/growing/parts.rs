@@ -14,45 +14,40 @@ const DOUBLING: usize = 6;
 
 /// A part of a pool, by a number of which each value names one.
 #[derive(Clone, Copy, PartialEq, Eq)]
-pub(crate) struct PartName(u16);
+pub(crate) struct PartName(pub(super) usize);
 
 impl PartName {
     const ALL: usize = 1_024;
 
     /// Names a part of a shard. `None` if there are too many.
     pub(super) fn new(shard: usize, part: usize) -> Option<PartName> {
-        (part < PARTS).then_some(PartName((part * SHARDS + shard) as u16))
+        (part < PARTS).then_some(PartName(part * SHARDS + shard))
     }
 
     pub(super) fn first(shard: usize) -> PartName {
-        PartName((shard % SHARDS) as u16)
+        PartName(shard % SHARDS)
     }
 
     /// Names the part of a place, and the place in it.
     #[inline(always)]
     pub(crate) fn of(at: usize) -> (PartName, usize) {
-        (PartName((at % Self::ALL) as u16), at / Self::ALL)
+        (PartName(at % Self::ALL), at / Self::ALL)
     }
 
     #[inline(always)]
     pub(super) fn shard(self) -> usize {
-        self.number() % SHARDS
+        self.0 % SHARDS
     }
 
     /// Returns which of its shard's parts it is.
     #[inline(always)]
     fn part(self) -> usize {
-        self.number() / SHARDS
+        self.0 / SHARDS
     }
 
     /// Returns how often the places of its shard's first part are doubled here.
     pub(crate) fn doublings(self) -> usize {
         self.part().min((self.part() + 3 * DOUBLING) / 4)
-    }
-
-    #[inline(always)]
-    pub(super) fn number(self) -> usize {
-        usize::from(self.0)
     }
 
     /// Names the next part of the shard. `None` if there are too many.
@@ -63,7 +58,7 @@ impl PartName {
     /// Returns what stands for this place in a part of this name.
     #[inline(always)]
     pub(super) fn at(self, place: usize) -> usize {
-        place * Self::ALL + self.number()
+        place * Self::ALL + self.0
     }
 
     /// Takes over the right to a place that was returned to the part of this name.
@@ -76,7 +71,6 @@ impl PartName {
 
 const _: () = assert!(SHARDS * PARTS == PartName::ALL);
 
-/// Some parts of a shard.
 type Table<P> = OnceBox<[OnceBox<P>; TABLE]>;
 
 /// What each part has, in the tables of shards. The parts of a shard are made in their order.
@@ -87,7 +81,6 @@ impl<P> Parts<P> {
         Parts([const { [const { OnceBox::new() }; PARTS / TABLE] }; SHARDS])
     }
 
-    /// Returns a part, if it was made.
     #[inline(always)]
     pub(crate) fn get(&self, name: PartName) -> Option<&P> {
         self.table(name).get()?[name.part() % TABLE].get()
@@ -127,7 +120,6 @@ impl<P> Parts<P> {
 /// Some places. At first all are held, and `fresh` ones are given one after the other.
 pub(super) struct Part {
     pub(super) library: Library,
-    /// How many places were given as fresh ones.
     fresh: AtomicUsize,
 }
 

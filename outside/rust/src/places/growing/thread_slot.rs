@@ -20,7 +20,6 @@ const RETURNS: u16 = 1_024;
 
 /// What a thread has of a pool. Others read its counts.
 pub(super) struct ThreadSlot {
-    /// How many places it keeps.
     kept: AtomicUsize,
     pub(super) pulled: Pulled,
     own: Owned<Own>,
@@ -58,12 +57,10 @@ pub(super) struct Way {
     handles: Vec<OwnHandle>,
     /// Whether it opens handles of its own.
     opens: bool,
-    /// An empty handle.
     none: OwnHandle,
 }
 
 impl ThreadSlot {
-    /// Creates what the thread of this number has.
     pub(super) fn new(number: &Number) -> ThreadSlot {
         let own = Own {
             kept: [const { Cell::new(None) }; KEPT],
@@ -78,7 +75,6 @@ impl ThreadSlot {
         }
     }
 
-    /// Returns the slot to its thread.
     #[inline(always)]
     pub(super) fn mine<'s>(&'s self, number: &'s Number) -> Mine<'s> {
         let (slot, own) = (self, self.own.get(number));
@@ -113,7 +109,6 @@ impl<'s> Mine<'s> {
         }
     }
 
-    /// Ends the work of a thread, which keeps nothing any more.
     pub(super) fn end(self) {
         self.set_count(UNUSED);
     }
@@ -157,7 +152,6 @@ impl<'s> Mine<'s> {
         self.own.way.try_borrow_mut().ok()
     }
 
-    /// Whether the thread only pulls places.
     #[inline(always)]
     pub(super) fn only_pulls(self) -> bool {
         self.own.pulls.get() >= PULLS
@@ -211,17 +205,16 @@ impl Way {
     /// Returns its own handle of a part, if it has one.
     #[inline(always)]
     pub(super) fn own_handle(&mut self, name: PartName) -> Option<&mut OwnHandle> {
-        let handle = self.handles.get_mut(name.number())?;
+        let handle = self.handles.get_mut(name.0)?;
         handle.is_some().then_some(handle)
     }
 
     /// Returns the handle of a part, which is opened if it isn't. It is empty if memory is refused.
     pub(super) fn handle(&mut self, name: PartName, library: &Library) -> &mut OwnHandle {
-        let number = name.number();
         if self.own_handle(name).is_none() {
-            self.open(number, library);
+            self.open(name.0, library);
         }
-        self.handles.get_mut(number).unwrap_or(&mut self.none)
+        self.handles.get_mut(name.0).unwrap_or(&mut self.none)
     }
 
     /// Opens the handle of this number. It stays away or empty if memory is refused.

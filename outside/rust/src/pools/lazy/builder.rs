@@ -1,14 +1,8 @@
 //! How a lazy pool is made.
-use super::idle::Times;
-use super::places::Places;
-use super::signs::Order;
-use super::{Judge, LazyPool};
-use crate::places::slots::Slots;
-use crate::pools::pool::NewError;
+use super::{idle::Entry, idle::Times, places::Places, signs::Order, Judge, LazyPool};
+use crate::{places::slots::Slots, pools::pool::NewError};
 use std::fmt::{self, Debug, Formatter};
-use std::marker::PhantomData;
-use std::sync::Arc;
-use std::time::Duration;
+use std::{marker::PhantomData, sync::Arc, time::Duration};
 
 /// What makes, resets and checks the items of a [`LazyPool`], in place of closures.
 ///
@@ -190,7 +184,7 @@ impl<T, E> Builder<T, E> {
     /// `NoItems` if there are none, or `Memory`, also if they are 2^32 or more.
     pub fn build(self) -> Result<LazyPool<T, E>, NewError> {
         let places = Places::new(self.items, self.order)?;
-        let slots = Slots::new((0..self.items).map(|_| Default::default()));
+        let slots = Slots::new((0..self.items).map(|_| Entry::EMPTY));
         if self.calls.check.is_some() || self.calls.on_event.is_some() || self.times.minds() {
             places.signs().mind();
         }

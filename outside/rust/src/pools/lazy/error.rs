@@ -1,7 +1,6 @@
 //! Why a pull of a lazy pool gave no item.
-use std::any::Any;
-use std::error::Error;
 use std::fmt::{self, Debug, Display, Formatter};
+use std::{any::Any, error::Error};
 
 /// Why a pull of a [`LazyPool`](crate::LazyPool) gave no item.
 ///

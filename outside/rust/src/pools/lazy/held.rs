@@ -1,5 +1,6 @@
 //! A place of a lazy pool from its pull to its return.
 use super::places::{Any, Closed};
+use super::signs::{CLOSED, MINDS};
 use super::{Entry, LazyPool, LazyReusable, PullError};
 use crate::library::Place;
 use crate::pools::guard::{AtEnd, Guard, Source};
@@ -18,7 +19,7 @@ impl<'p, T, E> Held<'p, T, E> {
     /// Pulls a place with an item. `None` if there was none at one moment.
     #[inline(always)]
     pub(super) fn made(pool: &'p LazyPool<T, E>) -> Option<Self> {
-        let place = pool.places.pull_made()?;
+        let place = pool.places.made.pull()?;
         Some(Held { pool, place })
     }
 
@@ -36,7 +37,6 @@ impl<'p, T, E> Held<'p, T, E> {
         Some(unsafe { Guard::new(pool, place) })
     }
 
-    /// Pulls a place as `Places::any` does.
     pub(super) fn any(pool: &'p LazyPool<T, E>) -> Got<'p, T, E> {
         Self::of(pool, pool.places.any())
     }
@@ -47,7 +47,6 @@ impl<'p, T, E> Held<'p, T, E> {
         any.map(|any| any.map(held).map_err(|Closed| PullError::Closed))
     }
 
-    /// Borrows what lies at the place.
     pub(super) fn entry(&mut self) -> &mut Entry<T> {
         // SAFETY: nobody else has the place, and this borrow of it is the only one.
         unsafe { &mut *self.pool.value(&self.place) }
@@ -106,7 +105,7 @@ unsafe impl<T, E> Source for LazyPool<T, E> {
     unsafe fn end(&self, place: Place) {
         let mut held = Held { pool: self, place };
         let entry = held.entry();
-        let is_plain = self.places.signs().load().is_plain();
+        let is_plain = !self.places.signs().load().has(CLOSED | MINDS);
         let may_stay = is_plain || (!self.is_closed() && !self.times.is_past(entry));
         if keep_if(&mut entry.item, |item| may_stay && (self.calls.reset)(item)) && !is_plain {
             self.times.came(entry);

@@ -13,11 +13,8 @@ pub struct Entry<T> {
     came: u64,
 }
 
-impl<T> Default for Entry<T> {
-    fn default() -> Self {
-        let (item, made, came) = (None, 0, 0);
-        Entry { item, made, came }
-    }
+impl<T> Entry<T> {
+    pub(super) const EMPTY: Entry<T> = Entry { item: None, made: 0, came: 0 };
 }
 
 pub(super) struct Times {
@@ -35,7 +32,6 @@ impl Default for Times {
 }
 
 impl Times {
-    /// Returns whether an item's times are looked at.
     pub(super) fn minds(&self) -> bool {
         self.idle.is_some() || self.life.is_some()
     }

@@ -1,10 +1,8 @@
 //! The places of a lazy pool: those that are empty, those with an item, and who waits for one.
-use super::queue::{Queue, Wake};
-use super::signs::{Order, Seen, Signs};
+use super::queue::Queue;
+use super::signs::{Order, Seen, Signs, NONE_MADE, TOLD};
 use super::waiters::{Limit, Waiters};
-use crate::library::Place;
-use crate::places::fixed::Fixed;
-use crate::pools::pool::NewError;
+use crate::{library::Place, places::fixed::Fixed, pools::pool::NewError};
 use std::iter;
 use std::sync::atomic::{AtomicU64, Ordering::SeqCst};
 
@@ -16,7 +14,7 @@ pub(super) type Any = Option<Result<Place, Closed>>;
 /// The empty places and those with an item: two pools over the same numbers.
 pub(super) struct Places {
     empty: Fixed,
-    made: Fixed,
+    pub(super) made: Fixed,
     /// How many are empty and free. One is counted off before it is pulled.
     empties: Empties,
     order: Order,
@@ -87,11 +85,6 @@ impl Places {
         &self.waiters.signs
     }
 
-    /// Pulls a place with an item. `None` if there was none at one moment.
-    pub(super) fn pull_made(&self) -> Option<Place> {
-        self.made.pull()
-    }
-
     /// Pulls an empty place. `None` if there was none at one moment.
     pub(super) fn pull_empty(&self) -> Option<Place> {
         self.empties.take().then_some(())?;
@@ -102,14 +95,14 @@ impl Places {
     /// Pulls a place with an item, if the pool has nothing else to mind.
     #[inline(always)]
     pub(super) fn pull_plain(&self) -> Option<Place> {
-        let stops = self.signs().load().stops_pull(self.order);
+        let stops = self.signs().load().has(self.order.0);
         (!stops).then(|| self.made.pull()).flatten()
     }
 
     /// Pulls a place, one with an item if it can. `None` if all were in use, or others come first.
     pub(super) fn any(&self) -> Any {
         let may_pull = self.signs().load().only_minds(self.order);
-        if let Some(place) = may_pull.then(|| self.pull_made()).flatten() {
+        if let Some(place) = may_pull.then(|| self.made.pull()).flatten() {
             return Some(Ok(place));
         }
         if self.others_come_first() {
@@ -130,14 +123,14 @@ impl Places {
 
     /// Pulls a place as `any` does, also if others wait.
     #[cold]
-    fn any_later(&self) -> Any {
+    pub(super) fn any_later(&self) -> Any {
         loop {
             let (signs, empties) = (self.signs().load_before(), self.empties.load());
             if signs.is_closed() {
                 return Some(Err(Closed));
             }
-            let is_none_made = signs.says_none_made() && empties[0] != 0;
-            if let Some(place) = (!is_none_made).then(|| self.pull_made()).flatten() {
+            let is_none_made = signs.has(NONE_MADE) && empties[0] != 0;
+            if let Some(place) = (!is_none_made).then(|| self.made.pull()).flatten() {
                 return Some(Ok(place));
             }
             if let Some(place) = self.pull_empty() {
@@ -153,11 +146,6 @@ impl Places {
     /// Waits for a place until the limit, in no order. `None` if a last try after it found none.
     pub(super) fn wait(&self, limit: Limit) -> Any {
         self.waiters.wait(limit, || self.any())
-    }
-
-    /// Comes last in the queue, and returns the ticket. `None` if memory is refused.
-    pub(super) fn enter_queue(&self, wake: Wake) -> Option<u64> {
-        self.queue.enter(self.signs(), wake, || self.any_later())
     }
 
     /// Returns a place, and tells those that wait. Returns whether the pool is closed.
@@ -176,7 +164,7 @@ impl Places {
             self.empties.put();
         }
         let signs = self.signs().load_after();
-        !signs.is_clear() && self.tell(signs, is_made)
+        signs.has(TOLD) && self.tell(signs, is_made)
     }
 
     #[cold]

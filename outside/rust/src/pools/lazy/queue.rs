@@ -2,13 +2,10 @@
 use super::places::{Any, Closed};
 use super::signs::Signs;
 use crate::library::Place;
-use std::collections::VecDeque;
 use std::sync::atomic::{AtomicU64, AtomicUsize, Ordering::SeqCst};
 use std::sync::{Mutex, MutexGuard, PoisonError};
-use std::task::Waker;
-use std::thread::Thread;
+use std::{collections::VecDeque, task::Waker, thread::Thread};
 
-/// How one that waits is woken.
 pub(super) enum Wake {
     Thread(Thread),
     Task(Waker),
@@ -52,7 +49,6 @@ impl Line {
         all.binary_search_by_key(&ticket, |waiter| waiter.ticket).ok()
     }
 
-    /// Removes who has this ticket, and returns it.
     fn remove(&mut self, ticket: u64) -> Option<Waiter> {
         let waiter = self.all.remove(self.index(ticket)?)?;
         self.served -= usize::from(waiter.place.is_some());
@@ -157,7 +153,6 @@ impl Queue {
         waiter.place
     }
 
-    /// Wakes all, after the pool was closed.
     pub(super) fn wake_all(&self) {
         let mut after = 0;
         loop {

@@ -1,13 +1,14 @@
 //! The word of a lazy pool that each pull and each return reads.
 use std::sync::atomic::{fence, AtomicU64, Ordering::SeqCst};
 
-const CLOSED: u64 = 1 << 31;
+pub(super) const CLOSED: u64 = 1 << 31;
 const WATCHED: u64 = 1 << 30;
-const NONE_MADE: u64 = 1 << 29;
+pub(super) const NONE_MADE: u64 = 1 << 29;
 /// The pool has a check, or times, or tells events.
-const MINDS: u64 = 1 << 28;
-/// How many wait.
+pub(super) const MINDS: u64 = 1 << 28;
 const WAITING: u64 = MINDS - 1;
+/// What a return minds.
+pub(super) const TOLD: u64 = CLOSED | WATCHED | NONE_MADE | WAITING;
 /// One that is counted in the upper half, and all of these.
 const CAME: u64 = 1 << 32;
 const ALL_CAME: u64 = !(CAME - 1);
@@ -21,7 +22,7 @@ pub(super) struct Seen(u64);
 
 /// The order in which those that wait get places, by what stops a pull.
 #[derive(Clone, Copy, PartialEq)]
-pub(super) struct Order(u64);
+pub(super) struct Order(pub(super) u64);
 
 impl Order {
     /// Whoever comes first to a place that is free.
@@ -65,7 +66,6 @@ impl Signs {
         fence(SeqCst);
     }
 
-    /// Says that the pool minds more than a reset.
     pub(super) fn mind(&self) {
         self.0.fetch_or(MINDS, SeqCst);
     }
@@ -76,7 +76,6 @@ impl Signs {
         self.change(|now| ((now ^ seen.0) & (ALL_CAME | WATCHED) == 0).then_some(now | sign));
     }
 
-    /// Notes that an item was returned.
     pub(super) fn made_came(&self) {
         let cleared = |now: u64| (now & !(WATCHED | NONE_MADE)).wrapping_add(CAME);
         self.change(|now| (now & WATCHED != 0).then(|| cleared(now)));
@@ -88,16 +87,10 @@ impl Signs {
 }
 
 impl Seen {
-    /// Returns whether a return has nobody to tell.
+    /// Returns whether any of these is set.
     #[inline(always)]
-    pub(super) fn is_clear(self) -> bool {
-        self.0 & (CLOSED | WATCHED | NONE_MADE | WAITING) == 0
-    }
-
-    /// Returns whether a return does no more than to reset its item.
-    #[inline(always)]
-    pub(super) fn is_plain(self) -> bool {
-        self.0 & (CLOSED | MINDS) == 0
+    pub(super) fn has(self, signs: u64) -> bool {
+        self.0 & signs != 0
     }
 
     /// Returns whether a pull that isn't plain may pull an item at once.
@@ -105,24 +98,13 @@ impl Seen {
         self.0 & order.0 == MINDS
     }
 
-    /// Returns whether a pull does more than to pull an item that is made.
-    #[inline(always)]
-    pub(super) fn stops_pull(self, order: Order) -> bool {
-        self.0 & order.0 != 0
-    }
-
     #[inline(always)]
     pub(super) fn is_closed(self) -> bool {
-        self.0 & CLOSED != 0
+        self.has(CLOSED)
     }
 
     pub(super) fn waiting(self) -> usize {
         (self.0 & WAITING) as usize
-    }
-
-    /// Returns whether it is known that no item is made and free.
-    pub(super) fn says_none_made(self) -> bool {
-        self.0 & NONE_MADE != 0
     }
 }
 

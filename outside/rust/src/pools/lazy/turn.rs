@@ -1,13 +1,9 @@
 //! A pull that waits in the queue of a lazy pool.
 use super::held::{Got, Held};
-use super::queue::Wake;
 use super::waiters::{left, Limit};
-use super::{Event, LazyPool, PullError};
-use std::future::Future;
-use std::hint::spin_loop;
-use std::pin::Pin;
+use super::{queue::Wake, Event, LazyPool, PullError};
 use std::task::{Context, Poll};
-use std::thread;
+use std::{future::Future, hint::spin_loop, pin::Pin, thread};
 
 /// How often a thread looks whether a place was handed to it before it sleeps.
 const LOOKS: usize = 100;
@@ -31,7 +27,9 @@ impl<'p, T, E> Turn<'p, T, E> {
     /// Comes last in the queue, if it isn't there. `None` if memory is refused.
     fn enter(&mut self, wake: impl FnOnce() -> Wake) -> Option<u64> {
         if self.ticket.is_none() {
-            self.ticket = self.pool.places.enter_queue(wake());
+            let places = &self.pool.places;
+            let look = || places.any_later();
+            self.ticket = places.queue.enter(places.signs(), wake(), look);
         }
         self.ticket
     }
@@ -50,7 +48,7 @@ impl<'p, T, E> Turn<'p, T, E> {
         loop {
             let is_last = left(limit).is_zero();
             match self.enter(|| Wake::Thread(thread::current())) {
-                Some(ticket) if self.is_due_soon(ticket) || is_last => {
+                Some(ticket) if is_last || self.is_due_soon(ticket) => {
                     let got = self.take(None);
                     if got.is_some() || is_last {
                         return got;

@@ -56,7 +56,6 @@ impl Waiters {
         true
     }
 
-    /// Wakes another one, if one waits.
     fn pass_on(&self) {
         if self.signs.load_after().waiting() > 0 {
             self.wake();
@@ -75,7 +74,6 @@ impl Waiters {
         }
     }
 
-    /// Says that the pool is closed, and wakes all.
     pub(super) fn close(&self) {
         self.signs.close();
         self.told.fetch_add(1, SeqCst);
