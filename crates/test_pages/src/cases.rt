@@ -1,6 +1,7 @@
 //! Rows of commands to a chain of pages. Item `i` of a new page has the value of the call that made
 //! it.
-use crate::games::plays;
+use crate::assert_equal::assert_equal;
+use crate::games::{left_by, plays};
 
 #[test]
 fn a_new_page_is_free(rt: HostRuntime) {
@@ -49,6 +50,42 @@ fn a_dropped_slot_leaves_its_id_out(rt: HostRuntime) {
         "take 0; drop 0; counts; mask 0; take 0",
         "pulled 0 0; dropped; calls 32 drops 1; mask 4294967294 full 0; pulled 1 1",
     );
+}
+
+#[test]
+fn a_slot_and_a_page_drop_each_value_once(rt: HostRuntime) {
+    let (maker, _) = left_by(
+        &rt,
+        "take 0; drop 0; counts; take 0; free 0; counts; take 0; forget 0; counts",
+        "pulled 0 0; dropped; calls 32 drops 1; pulled 1 1; freed; calls 32 drops 1; \
+         pulled 1 1; forgotten; calls 32 drops 1",
+    );
+    assert_equal(&rt, maker.tally.now(), (32, 31));
+}
+
+#[test]
+fn an_owned_slot_keeps_its_page(rt: HostRuntime) {
+    let (maker, owned) = left_by(
+        &rt,
+        "owned 0*2; mask 0; free 0; mask 0",
+        "pulled 0+ 0+; mask 4294967292 full 0; freed; mask 4294967293 full 0",
+    );
+    let kept = owned.first().map(|slot| slot.number);
+    assert_equal(&rt, (kept, maker.tally.now()), (Some(1), (32, 0)));
+    drop(owned);
+    assert_equal(&rt, maker.tally.now(), (32, 32));
+}
+
+/// The chain ends before the slots, and its pages end with them.
+#[test]
+fn the_last_slots_that_walks_found_let_their_pages_end(rt: HostRuntime) {
+    let (maker, mut owned) = left_by(&rt, "owned 0*33; counts", "pulled 0+ 0+; calls 64 drops 0");
+    if let Some(slot) = owned.pop() {
+        slot.free();
+    }
+    assert_equal(&rt, maker.tally.now(), (64, 32));
+    drop(owned);
+    assert_equal(&rt, maker.tally.now(), (64, 64));
 }
 
 #[test]

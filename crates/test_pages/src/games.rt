@@ -1,8 +1,11 @@
 //! Games: random commands to a chain of pages and to its model, which have to answer the same.
+use crate::assert_equal::assert_equal;
 use crate::model::Model;
 use crate::player::{Maker, Owned, PagePlayer, Pages};
 use page_chain::linear_page::Chain;
 use pool_parts::PullError;
+use pool_parts::clean::AnyValue;
+use pool_parts::page::Page;
 use rows::dice::Dice;
 use rows::game::{Game, Trial, Unfair, played, replayed, shrunk};
 use rows::row::{Command, Player, first_difference};
@@ -12,6 +15,7 @@ use std::process::Abort;
 use std::sync::Arc;
 use std::sync::atomic::AtomicUsize;
 use test_values::counted::NEVER;
+use test_values::tallied::Tallied;
 use test_values::tally::new_tally;
 
 /// Creates what makes values, and refuses one call, counted from 0.
@@ -26,24 +30,35 @@ fn opened(alloc: Global, maker: &Maker) -> Result<Pages, PullError> {
     Chain::new(alloc, &|| maker.make())
 }
 
-/// A chain ends with the last owned slots of its pages, which drop their values.
-fn ends(rt: &impl Abort, chain: Pages, owned: Vec<Owned>, maker: &Maker) {
-    drop(chain);
-    assert!(*rt; maker.tally.living() >= owned.len());
+/// A chain ended but for the owned slots of its pages, which drop their values.
+fn ends(rt: &impl Abort, maker: &Maker, owned: Vec<Owned>) {
+    assert_equal(rt, maker.tally.living() >= owned.len(), true);
     drop(owned);
     let left = (maker.tally.living(), Arc::strong_count(&maker.tally));
-    assert_eq!(*rt; left, (0, 1));
+    assert_equal(rt, left, (0, 1));
 }
 
-/// Plays a row with a new chain, which ends then.
-pub fn plays(rt: &(impl Abort + AllocGlobal), commands: &'static str, answers: &'static str) {
+/// Plays a row with a new chain, which ends then. Returns what made its values, and the owned slots
+/// that are left of it.
+pub fn left_by(
+    rt: &(impl Abort + AllocGlobal),
+    commands: &'static str,
+    answers: &'static str,
+) -> (Maker, Vec<Owned>) {
     let maker = maker(rt.alloc(), NEVER).expect(rt, "memory is left");
     let chain = opened(rt.alloc(), &maker).expect(rt, "a chain is made");
     let player = PagePlayer::new(rt.alloc(), &chain, &maker);
     let mut player = player.expect(rt, "memory is left");
-    assert_eq!(*rt; first_difference(&mut player, commands, answers), None);
+    assert_equal(rt, first_difference(&mut player, commands, answers), None);
     let owned = player.into_owned(rt.alloc()).expect(rt, "memory is left");
-    ends(rt, chain, owned, &maker);
+    drop(chain);
+    (maker, owned)
+}
+
+/// Plays a row with a new chain, which ends then.
+pub fn plays(rt: &(impl Abort + AllocGlobal), commands: &'static str, answers: &'static str) {
+    let (maker, owned) = left_by(rt, commands, answers);
+    ends(rt, &maker, owned);
 }
 
 /// A chain and its model.
@@ -190,7 +205,8 @@ fn plays_a_game(rt: &(impl Abort + AllocGlobal), seed: u64, most: usize) {
     }
     let player = game.into_player();
     let owned = player.into_owned(alloc).expect(rt, "memory is left");
-    ends(rt, chain, owned, &maker);
+    drop(chain);
+    ends(rt, &maker, owned);
 }
 
 #[test]
@@ -201,17 +217,33 @@ fn a_chain_answers_as_its_model(rt: HostRuntime) {
     }
 }
 
-/// The chain of which this call is refused, counted from 0, isn't made. What was made is dropped.
-fn is_not_made(rt: &impl Abort, alloc: Global, made: usize) {
-    let maker = maker(alloc, made).expect(rt, "memory is left");
-    let refusal = opened(alloc, &maker).err();
+/// A chain or a page of which a call is refused, counted from 0, isn't made. What was made is
+/// dropped.
+fn is_not_made(rt: &(impl Abort + AllocGlobal), is_chain: bool, call: usize) {
+    let maker = maker(rt.alloc(), call).expect(rt, "memory is left");
+    let refusal = if is_chain {
+        opened(rt.alloc(), &maker).err()
+    } else {
+        Page::<Tallied, AnyValue>::new(rt.alloc(), &|| maker.make()).err()
+    };
     let seen = (refusal, maker.tally.now());
-    assert_eq!(*rt; seen, (Some(PullError::Init), (made.wrapping_add(1), made)));
+    assert_equal(
+        rt,
+        seen,
+        (Some(PullError::Init), (call.wrapping_add(1), call)),
+    );
 }
 
 #[test]
 fn a_chain_that_init_refuses_at_any_call_is_not_made(rt: HostRuntime) {
-    for made in 0..32usize {
-        is_not_made(&rt, rt.alloc(), made);
+    for call in 0..32usize {
+        is_not_made(&rt, true, call);
+    }
+}
+
+#[test]
+fn init_that_refuses_stops_a_new_page(rt: HostRuntime) {
+    for call in 0..32usize {
+        is_not_made(&rt, false, call);
     }
 }

@@ -8,7 +8,6 @@ use std::process::Abort;
 
 mod links;
 mod lost_race;
-mod owned_walks;
 mod refusals;
 mod sends;
 

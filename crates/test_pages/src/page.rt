@@ -9,10 +9,8 @@ use std::sync::Arc;
 
 mod histories;
 mod ids;
-mod rounds;
 pub mod sharing;
 mod slots;
-mod values;
 mod words;
 
 /// An item that a page gives.

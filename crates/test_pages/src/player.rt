@@ -13,6 +13,7 @@ use pool_parts::page::{Allocated, OwnedSlot, Page, PageSlot, PullPass};
 use rows::row::{Command, Player};
 use rows::said::Said;
 use std::alloc::{AllocError, Global};
+use std::mem;
 use std::sync::Arc;
 use std::sync::atomic::AtomicUsize;
 use std::sync::atomic::Ordering::SeqCst;
@@ -332,6 +333,10 @@ impl<'c> PagePlayer<'c> {
                 Said::of("freed")
             }
             ("again", Slot::Borrowed(slot)) => self.hold_of(page, tried_again(slot)),
+            ("forget", slot) => {
+                mem::forget(slot);
+                Said::of("forgotten")
+            }
             (_, slot) => {
                 drop(slot);
                 Said::of("dropped")
@@ -359,7 +364,7 @@ impl<'c> Player for PagePlayer<'c> {
             "counts" => self.counts(),
             "refuse" => self.refuse(command.numbers[0]),
             "write" | "after" => self.use_held(command),
-            "free" | "again" | "drop" => self.leave(command),
+            "free" | "again" | "drop" | "forget" => self.leave(command),
             _ => self.use_page(command),
         }
     }

@@ -6,7 +6,6 @@ use super::*;
 use crate::assert_equal::assert_equal;
 use crate::zero::{refused, zero};
 use std::thread;
-use std::thread::Threads;
 
 /// Two answers for one page are the same page, whichever threads asked: their notes are of one
 /// link.
@@ -61,20 +60,12 @@ fn a_link_is_set_once(rt: HostRuntime) {
     );
 }
 
-/// The ids that two threads take of the page behind a full one.
-fn race<R: Threads + Sync>(rt: &R, page: &ZeroPage<'_>) -> (Option<u8>, Option<u8>) {
-    thread::join(
-        rt,
-        || first_id(&behind_full(page, &zero)?),
-        || first_id(&behind_full(page, &zero)?),
-    )
-}
-
 #[test]
 fn two_threads_come_to_one_page(rt: HostRuntime) {
     let chain = Zeros::new(rt.alloc(), &zero).expect(&rt, "a chain is made");
     let first = chain.first();
     forget_all(&rt, &first);
-    let ids = race(&rt, &first);
+    let come = || first_id(&behind_full(&first, &zero)?);
+    let ids = thread::join(&rt, come, come);
     assert!(rt; ids == (Some(0), Some(1)) || ids == (Some(1), Some(0)));
 }
