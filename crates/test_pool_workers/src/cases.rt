@@ -197,6 +197,21 @@ fn a_worker_begins_at_its_place(rt: HostRuntime) {
     plays(&rt, Kind::Lazy(640), &[None, None], &[lazy]);
 }
 
+/// Its page is full while another page has free items.
+#[test]
+fn a_worker_whose_page_is_full_begins_on_the_next_page(rt: HostRuntime) {
+    let fixed = (
+        "pull 1*32; pull 1; pull 1",
+        "pulled 256+ 256+; pulled 0 0; pulled 288 288",
+    );
+    plays(&rt, Kind::Fixed(640), &[None, None], &[fixed]);
+    let lazy = (
+        "pull 1*32; pull 1; pull 1",
+        "pulled 256+ 0+; pulled 0 32; pulled 288 33",
+    );
+    plays(&rt, Kind::Lazy(640), &[None, None], &[lazy]);
+}
+
 /// A refused pull calls `init` once, and the next pull gives an item.
 #[test]
 fn a_refused_worker_asks_once(rt: HostRuntime) {

@@ -18,8 +18,8 @@ struct Item {
 #[derive(Drop)]
 struct Keeper {
     room: usize,
-    /// The first number of the page at which its pulls begin.
-    start: usize,
+    /// The page at which its next pull begins.
+    page: usize,
     kept: Vec<Item>,
 }
 
@@ -45,6 +45,8 @@ pub struct Standing {
 pub struct Workers {
     pool: Model,
     is_lazy: bool,
+    /// How many pages a pull may begin at. In a linear pool each begins at the first one.
+    pages: usize,
     /// How many own the book beside the values: the game, and what the pool has of its closures. A
     /// fixed pool has no `init` after its opening.
     others: usize,
@@ -61,16 +63,17 @@ impl Workers {
     ///
     /// If memory is refused.
     pub fn new(alloc: Global, kind: Kind) -> Result<Workers, AllocError> {
-        let (batch, made, others) = match kind {
-            Kind::Fixed(items) => (1, items, 2),
-            Kind::Lazy(_) => (1, 0, 3),
-            Kind::Linear(_) => (32, 32, 3),
+        let (batch, made, others, pages) = match kind {
+            Kind::Fixed(items) => (1, items, 2, items.div_ceil(32)),
+            Kind::Lazy(items) => (1, 0, 3, items.div_ceil(32)),
+            Kind::Linear(_) => (32, 32, 3, 1),
         };
         let mut pool = Model::new(alloc, kind.items(), batch)?;
         pool.make_all(0, made);
         Ok(Workers {
             pool,
             is_lazy: matches!(kind, Kind::Lazy(_)),
+            pages,
             others,
             keepers: Vec::new(alloc),
             held: Vec::new(alloc),
@@ -79,7 +82,7 @@ impl Workers {
         })
     }
 
-    /// Adds a worker whose pulls begin at this page.
+    /// Adds a worker whose first pull begins at this page.
     ///
     /// # Errors
     ///
@@ -87,7 +90,7 @@ impl Workers {
     pub fn add(&mut self, alloc: Global, room: Room, page: usize) -> Result<(), AllocError> {
         self.keepers.push(Keeper {
             room: room.unwrap_or(1),
-            start: page.wrapping_mul(32),
+            page,
             kept: Vec::new(alloc),
         })?;
         Ok(())
@@ -138,14 +141,28 @@ impl Workers {
         let Some(keeper) = self.keepers.get_mut(worker) else {
             return said.words() == "no such worker";
         };
-        let (kept, start) = (keeper.kept.pop(), keeper.start);
+        let (kept, page) = (keeper.kept.pop(), keeper.page);
         if let Some(item) = kept {
             let is_same = said == Said::of("pulled").and(item.number).and(item.serial);
             return is_same && self.hold(worker, item);
         }
-        match self.taken(start, 32, said) {
-            Ok(Some(item)) => said.words() == "pulled" && self.hold(worker, item),
+        match self.taken(page.wrapping_mul(32), 32, said) {
+            Ok(Some(item)) => {
+                self.go_on(worker, item.number / 32);
+                said.words() == "pulled" && self.hold(worker, item)
+            }
             answer => answer.is_ok(),
+        }
+    }
+
+    /// If a worker's pull found an item of another page than that at which it began, the next one
+    /// begins a page further.
+    fn go_on(&mut self, worker: usize, page: usize) {
+        if let Some(keeper) = self.keepers.get_mut(worker)
+            && keeper.page != page
+        {
+            let next = keeper.page.wrapping_add(1);
+            keeper.page = next.checked_rem(self.pages).unwrap_or(0);
         }
     }
 
