@@ -8,7 +8,6 @@ use object_pool_cores::buffers::*;
 use pool_parts::PullError;
 use pool_parts::closures::{Init, InitBy, Makes, ResetBy, Resets};
 use std::alloc::Global;
-use std::fmt::Debug;
 use std::process::Abort;
 use std::sync::Arc;
 use std::thread;
@@ -19,19 +18,10 @@ const MOST_TURNS: u32 = 10_000_000;
 /// A pool that needs no closures.
 type ReadyPool = BufferPool<WithCapacity, Clear>;
 
-/// A pool of one page, whose buffers have room for 16 bytes.
-fn one_page(alloc: Global) -> Result<ReadyPool, PullError> {
-    BufferPool::new(alloc, WithCapacity::new(alloc, 16), Clear, 1)
-}
-
-/// Creates such a pool. There has to be memory for it.
-fn made_pool(rt: &(impl Abort + AllocGlobal)) -> ReadyPool {
-    one_page(rt.alloc()).expect(rt, "a pool is made")
-}
-
-/// Pulls a buffer. One has to be free.
-fn pulled<'p>(rt: &impl Abort, pool: &'p ReadyPool) -> Buffer<'p, WithCapacity, Clear> {
-    pool.pull().expect(rt, "an item is free")
+/// Creates a pool of at most so many pages, whose buffers have room for 16 bytes.
+fn made_pool(rt: &(impl Abort + AllocGlobal), pages: usize) -> ReadyPool {
+    let init = WithCapacity::new(rt.alloc(), 16);
+    BufferPool::new(rt.alloc(), init, Clear, pages.max(1)).expect(rt, "a pool is made")
 }
 
 /// What a buffer holds after two appends, and what the same room holds when it is pulled again.
@@ -85,10 +75,9 @@ fn pulled_by<I: InitBy<Vec<u8>>, R: ResetBy<Vec<u8>>>(
 
 #[test]
 fn a_buffer_holds_what_was_appended_and_comes_again_empty(rt: HostRuntime) {
-    let pool = made_pool(&rt);
+    let pool = made_pool(&rt, 1);
     let (written, again) = written_and_pulled(rt.alloc(), &pool).expect(&rt, "nothing is refused");
-    assert_equal(&rt, written.as_slice(), b"abc".as_slice());
-    assert_equal(&rt, again, 0);
+    assert_equal(&rt, (written.as_slice(), again), (b"abc".as_slice(), 0));
     let mut buffer = pool.pull().expect(&rt, "an item is free");
     assert_equal(&rt, (buffer.page_number(), buffer.page_id()), (0, 0));
     joined(&mut buffer, b"to", b"gether").expect(&rt, "nothing is refused");
@@ -105,8 +94,8 @@ fn closures_make_and_clear_buffers(rt: HostRuntime) {
     assert_equal(&rt, refused, Err(PullError::Init));
 }
 
-/// Pulls, looks, appends and drops, a hundred times. Whether
-/// each buffer was empty and then held what was appended.
+/// Pulls, looks, appends and drops, a hundred times. Whether each buffer was empty and then held what
+/// was appended.
 fn fill_often(pool: &ReadyPool) -> bool {
     let bytes = [7u8; 100];
     for _ in 0..100 {
@@ -135,7 +124,7 @@ fn pulled_at_last(pool: &ReadyPool) -> Option<Buffer<'_, WithCapacity, Clear>> {
 
 #[test]
 fn five_threads_find_each_buffer_empty(rt: HostRuntime) {
-    let pool = Arc::new(rt.alloc(), made_pool(&rt)).expect(&rt, "memory is left");
+    let pool = Arc::new(rt.alloc(), made_pool(&rt, 1)).expect(&rt, "memory is left");
     let mut threads = Vec::with_capacity(rt.alloc(), 5).expect(&rt, "memory is left");
     for _ in 0..5 {
         let pool = Arc::try_clone(&pool).expect(&rt, "memory is left");
@@ -148,47 +137,10 @@ fn five_threads_find_each_buffer_empty(rt: HostRuntime) {
     }
 }
 
-/// Checks what a value is shown by.
-fn shows(rt: &(impl Abort + AllocGlobal), value: &impl Debug, expected: &str) {
-    let text = format!(in rt.alloc(); "{value:?}").expect(rt, "memory is left");
-    assert_equal(rt, text.as_str(), expected);
-}
-
-/// Checks what a buffer of these bytes is shown by.
-fn is_shown(rt: &(impl Abort + AllocGlobal), bytes: &[u8], expected: &str) {
-    let pool = made_pool(rt);
-    let mut buffer = pulled(rt, &pool);
-    buffer.append(bytes).expect(rt, "memory is left");
-    shows(rt, &buffer, expected);
-}
-
-#[test]
-fn a_pool_and_its_buffer_are_shown(rt: HostRuntime) {
-    let expected = "BufferPool { pool: LinearObjectPool { limit: Some(1), .. } }";
-    shows(&rt, &made_pool(&rt), expected);
-    is_shown(&rt, &[7, 9], "[7, 9]");
-}
-
-#[test]
-fn an_empty_buffer_and_a_full_one_are_shown(rt: HostRuntime) {
-    is_shown(&rt, b"", "[]");
-    let bytes = [0, 1, 2, 3, 4, 5, 6, 7, 8, 9, 10, 11, 12, 13, 14, 255];
-    let expected = "[0, 1, 2, 3, 4, 5, 6, 7, 8, 9, 10, 11, 12, 13, 14, 255]";
-    is_shown(&rt, &bytes, expected);
-}
-
-#[test]
-fn a_buffer_of_hundreds_of_bytes_is_shown_whole(rt: HostRuntime) {
-    let text = format!(in rt.alloc(); "{:?}", [7u8; 600].as_slice()).expect(&rt, "memory is left");
-    assert_equal(&rt, text.len(), 1800);
-    is_shown(&rt, &[7; 600], text.as_str());
-}
-
 #[test]
 fn the_greatest_limit_needs_no_memory_beforehand(rt: HostRuntime) {
-    let init = WithCapacity::new(rt.alloc(), 16);
-    let pool = BufferPool::new(rt.alloc(), init, Clear, usize::MAX).expect(&rt, "a pool is made");
-    let buffer = pulled(&rt, &pool);
+    let pool = made_pool(&rt, usize::MAX);
+    let buffer = pool.pull().expect(&rt, "an item is free");
     assert_equal(&rt, (buffer.page_number(), buffer.page_id()), (0, 0));
 }
 
@@ -203,34 +155,36 @@ fn a_fresh_buffer_has_the_room_that_is_asked_for(rt: HostRuntime) {
     }
 }
 
-/// A buffer takes these parts, each of which is a byte so many times, and holds them all.
-fn takes(rt: &(impl Abort + AllocGlobal), parts: &[(u8, usize)]) {
-    let pool = made_pool(rt);
-    let mut buffer = pulled(rt, &pool);
+/// A buffer takes parts of so many bytes, holds them all, and is shown as a vector of them is.
+fn takes(rt: &(impl Abort + AllocGlobal), parts: &[usize]) {
+    let pool = made_pool(rt, 1);
+    let mut buffer = pool.pull().expect(rt, "an item is free");
     let mut expected = Vec::new(rt.alloc());
-    for (byte, count) in parts {
-        let part = vec![in rt.alloc(); *byte; *count].expect(rt, "memory is left");
+    for (byte, count) in parts.iter().enumerate() {
+        let part = vec![in rt.alloc(); (byte % 256) as u8; *count].expect(rt, "memory is left");
         buffer.append(&part).expect(rt, "memory is left");
         expected
             .extend_from_slice(&part)
             .expect(rt, "memory is left");
     }
     assert!(*rt; buffer.as_slice() == expected.as_slice());
+    if expected.len() < MEBIBYTE {
+        let shown = format!(in rt.alloc(); "{buffer:?}").expect(rt, "memory is left");
+        let wanted = format!(in rt.alloc(); "{expected:?}").expect(rt, "memory is left");
+        assert_equal(rt, shown.as_str(), wanted.as_str());
+    }
 }
 
 #[test]
 fn a_buffer_takes_long_texts_again_and_again(rt: HostRuntime) {
-    let mut parts = [(7u8, 5000usize); 21];
-    parts[20] = (7, 0);
-    takes(&rt, &parts);
+    takes(&rt, &[5000; 21]);
+    takes(&rt, &[MEBIBYTE, 4, 5000]);
+    takes(&rt, &[3 * MEBIBYTE]);
 }
 
 #[test]
-fn a_buffer_of_a_mebibyte_takes_more(rt: HostRuntime) {
-    takes(&rt, &[(7, MEBIBYTE), (1, 4), (9, 5000)]);
-}
-
-#[test]
-fn three_mebibytes_are_appended_at_once(rt: HostRuntime) {
-    takes(&rt, &[(7, 3 * MEBIBYTE)]);
+fn buffers_are_shown_empty_and_full_and_long(rt: HostRuntime) {
+    takes(&rt, &[]);
+    takes(&rt, &[16]);
+    takes(&rt, &[1, 255, 300, 0]);
 }

@@ -11,8 +11,6 @@ mod cores;
 #[cfg(test)]
 mod engine;
 #[cfg(test)]
-mod run_error;
-#[cfg(test)]
 mod values;
 #[cfg(test)]
 mod worlds;

@@ -63,6 +63,11 @@ impl Reset<Tallied, AnyValue> for Resets {
     }
 }
 
+/// The commands of a row, and the answers, which stand behind `=>`.
+pub fn parted(row: &'static str) -> (&'static str, &'static str) {
+    row.split_once("=>").unwrap_or((row, ""))
+}
+
 /// Says how many calls there were for a value, and how many values were reset and dropped.
 pub fn counts(tally: &Tally) -> Said {
     Said::of("calls reset dropped")

@@ -1,13 +1,11 @@
 //! Rows of events to a world of agents, and what no row can say of one.
 mod cases;
-mod hints;
+mod drops;
 mod player;
 mod room;
-mod runs;
-mod whole;
 
 use crate::assert_equal::assert_equal;
-use crate::values::{Leaves, Resets, ends, made_tally};
+use crate::values::{Leaves, Resets, ends, made_tally, parted};
 use object_pool_cores::interleave::World;
 use player::{TalliedWorld, WorldPlayer, made_page};
 use pool_parts::PullError;
@@ -33,15 +31,11 @@ fn new_world(
 }
 
 /// Plays a row with a new world of at most so many pages, if there is a limit, and ends the world.
-fn plays_in(
-    rt: &(impl Abort + AllocGlobal),
-    limit: Option<usize>,
-    commands: &'static str,
-    answers: &'static str,
-) {
+fn plays_in(rt: &(impl Abort + AllocGlobal), limit: Option<usize>, row: &'static str) {
     let (alloc, tally) = (rt.alloc(), made_tally(rt));
     let world = new_world(alloc, &tally, limit).expect(rt, "a world is made");
     let mut player = WorldPlayer::new(alloc, tally, world);
+    let (commands, answers) = parted(row);
     let difference = first_difference(&mut player, commands, answers);
     assert_equal(rt, difference, None);
     let tally = player.tally;
@@ -49,6 +43,6 @@ fn plays_in(
 }
 
 /// Plays a row with a new world that has no limit, and ends the world.
-fn plays(rt: &(impl Abort + AllocGlobal), commands: &'static str, answers: &'static str) {
-    plays_in(rt, None, commands, answers);
+fn plays(rt: &(impl Abort + AllocGlobal), row: &'static str) {
+    plays_in(rt, None, row);
 }

@@ -27,13 +27,20 @@ pub trait Holds {
         &mut self,
         steps: Vec<Step<Tallied>>,
         replies: &mut Vec<Reply<Tallied>>,
-    ) -> Result<(), RunError>;
+    ) -> Result<(), RunError> {
+        for step in steps {
+            replies.push(self.step(step)?)?;
+        }
+        Ok(())
+    }
 
     /// Returns the value that a holder has.
     fn value(&self, holder: usize) -> Option<usize>;
 
     /// Says what the core tells of itself, or of a holder's item.
-    fn tell(&self, command: Command) -> Said;
+    fn tell(&self, _command: Command) -> Said {
+        Said::of("no such command")
+    }
 }
 
 impl<P: SequentialPool<Tallied>> Holds for Player<Tallied, P> {
@@ -52,10 +59,6 @@ impl<P: SequentialPool<Tallied>> Holds for Player<Tallied, P> {
     fn value(&self, holder: usize) -> Option<usize> {
         Some(self.held(holder)?.number)
     }
-
-    fn tell(&self, _command: Command) -> Said {
-        Said::of("no such command")
-    }
 }
 
 /// A core, and its items by their holders.
@@ -68,10 +71,8 @@ pub struct Held<P> {
 impl<P: SequentialPool<Tallied>> Held<P> {
     /// Creates one of a core of which nothing is held.
     pub fn new(alloc: Global, core: P) -> Held<P> {
-        Held {
-            core,
-            items: Vec::new(alloc),
-        }
+        let items = Vec::new(alloc);
+        Held { core, items }
     }
 
     /// Holds an item. The reply names its number.
@@ -81,17 +82,16 @@ impl<P: SequentialPool<Tallied>> Held<P> {
         Ok(reply)
     }
 
-    /// Gives an item back, where it is the core's own.
-    fn give(&mut self, item: Item<Tallied>) -> Reply<Tallied> {
-        if !self.core.is_mine(&item) {
+    /// Lets an item go: back to the core where it is the core's own, or not.
+    fn let_go(&mut self, holder: usize, comes_back: bool) -> Reply<Tallied> {
+        let Some(item) = self.items.get_mut(holder).and_then(|item| item.take()) else {
+            return Reply::NoSuchHolder;
+        };
+        if !comes_back || !self.core.is_mine(&item) {
             return Reply::Forgotten;
         }
         self.core.give(item);
         Reply::Returned
-    }
-
-    fn take(&mut self, holder: usize) -> Option<Item<Tallied>> {
-        self.items.get_mut(holder)?.take()
     }
 }
 
@@ -113,26 +113,9 @@ impl<P: SequentialPool<Tallied> + Opens> Holds for Held<P> {
                 }
                 _ => Reply::NoSuchHolder,
             },
-            Step::Return(holder) => match self.take(holder) {
-                Some(item) => self.give(item),
-                None => Reply::NoSuchHolder,
-            },
-            Step::Forget(holder) => match self.take(holder) {
-                Some(_) => Reply::Forgotten,
-                None => Reply::NoSuchHolder,
-            },
+            Step::Return(holder) => self.let_go(holder, true),
+            Step::Forget(holder) => self.let_go(holder, false),
         })
-    }
-
-    fn run(
-        &mut self,
-        steps: Vec<Step<Tallied>>,
-        replies: &mut Vec<Reply<Tallied>>,
-    ) -> Result<(), RunError> {
-        for step in steps {
-            replies.push(self.step(step)?)?;
-        }
-        Ok(())
     }
 
     fn value(&self, holder: usize) -> Option<usize> {
@@ -153,40 +136,35 @@ impl<P: SequentialPool<Tallied> + Opens> Holds for Held<P> {
 }
 
 /// Returns the step that a command asks for. Values are made by one more call of the tally.
-pub fn step_of(tally: &Arc<Tally>, command: Command) -> Option<Step<Tallied>> {
+fn step_of(tally: &Arc<Tally>, command: Command) -> Option<Step<Tallied>> {
     let [first, second, _] = command.numbers;
-    match command.word {
-        "pull" => Some(Step::Pull),
-        "attach" => Some(Step::Attach(numbered(tally, first)?)),
-        "write" => Some(Step::Write(first, numbered(tally, second)?)),
-        "return" => Some(Step::Return(first)),
-        "forget" => Some(Step::Forget(first)),
-        _ => None,
-    }
-}
-
-/// Returns a number of an item, where it fits.
-fn to_usize(number: u128) -> usize {
-    usize::try_from(number).unwrap_or(usize::MAX)
+    Some(match command.word {
+        "pull" => Step::Pull,
+        "attach" => Step::Attach(numbered(tally, first)?),
+        "write" => Step::Write(first, numbered(tally, second)?),
+        "return" => Step::Return(first),
+        "forget" => Step::Forget(first),
+        _ => return None,
+    })
 }
 
 /// Says what the reply to a step is.
-pub fn said_of(reply: &Reply<Tallied>) -> Said {
+fn said_of(reply: &Reply<Tallied>) -> Said {
     match reply {
         Reply::Pulled(holder, Some(number)) => {
-            Said::of("pulled").and(*holder).and(to_usize(*number))
+            let number = usize::try_from(*number).unwrap_or(usize::MAX);
+            Said::of("pulled").and(*holder).and(number)
         }
         Reply::Pulled(holder, None) | Reply::Attached(holder) => Said::of("pulled").and(*holder),
         Reply::Refused(PullError::Init) => Said::of("refused init"),
         Reply::Refused(PullError::Limit) => Said::of("refused limit"),
-        Reply::Refused(_) => Said::of("refused"),
-        Reply::Written => Said::of("written"),
-        Reply::Returned => Said::of("returned"),
-        Reply::Forgotten => Said::of("forgotten"),
         Reply::AttachRefused(AttachError::NotOffered(value)) => {
             Said::of("not offered").and(value.number)
         }
-        Reply::AttachRefused(AttachError::Memory(_)) => Said::of("refused memory"),
+        Reply::Refused(_) | Reply::AttachRefused(_) => Said::of("refused memory"),
+        Reply::Written => Said::of("written"),
+        Reply::Returned => Said::of("returned"),
+        Reply::Forgotten => Said::of("forgotten"),
         Reply::NoSuchHolder => Said::of("no such holder"),
     }
 }
@@ -218,7 +196,7 @@ impl<H: Holds> CorePlayer<H> {
     /// Does a step, and says the value of an item that came. Or gathers it.
     fn step(&mut self, command: Command) -> Result<Said, RunError> {
         let Some(step) = step_of(&self.tally, command) else {
-            return Ok(Said::of("no such command"));
+            return Ok(self.pool.tell(command));
         };
         if self.gathers {
             self.steps.push(step)?;
@@ -226,14 +204,22 @@ impl<H: Holds> CorePlayer<H> {
         }
         let reply = self.pool.step(step)?;
         let said = said_of(&reply);
-        let value = match reply {
-            Reply::Pulled(holder, _) | Reply::Attached(holder) => self.pool.value(holder),
-            _ => None,
+        let (Reply::Pulled(holder, _) | Reply::Attached(holder)) = reply else {
+            return Ok(said);
         };
-        Ok(match value {
-            Some(value) => said.and(value),
-            None => said,
-        })
+        Ok(
+            self.pool
+                .value(holder)
+                .map_or(said, |value| said.and(value)),
+        )
+    }
+
+    /// Gathers so many returns by one who holds nothing.
+    fn gather_idle(&mut self, times: usize) -> Result<Said, RunError> {
+        for _ in 0..times {
+            self.steps.push(Step::Return(usize::MAX))?;
+        }
+        Ok(Said::of("gathered"))
     }
 
     /// Does what was gathered, and says how many replies there are.
@@ -241,15 +227,6 @@ impl<H: Holds> CorePlayer<H> {
         let steps = mem::replace(&mut self.steps, Vec::new(self.alloc));
         self.pool.run(steps, &mut self.replies)?;
         Ok(Said::of("replies").and(self.replies.len()))
-    }
-
-    /// Gathers so many pulls, each before the return of its item.
-    fn gather_turns(&mut self, turns: usize) -> Result<Said, RunError> {
-        for holder in 0..turns {
-            self.steps.push(Step::Pull)?;
-            self.steps.push(Step::Return(holder))?;
-        }
-        Ok(Said::of("gathered"))
     }
 }
 
@@ -261,17 +238,11 @@ impl<H: Holds> row::Player for CorePlayer<H> {
                 self.gathers = true;
                 Ok(Said::of("gathers"))
             }
+            "idle" => self.gather_idle(first),
             "run" => self.run(),
-            "turns" => self.gather_turns(first),
-            "reply" => Ok(
-                self.replies
-                    .get(first)
-                    .map(said_of)
-                    .unwrap_or(Said::of("none")),
-            ),
+            "reply" => Ok(self.replies.get(first).map_or(Said::of("none"), said_of)),
             "held" => Ok(number_or_none("has", self.pool.value(first))),
             "counts" => Ok(counts(&self.tally)),
-            "pages" | "looked" | "limit" | "mine" => Ok(self.pool.tell(command)),
             _ => self.step(command),
         };
         said.unwrap_or(Said::of("out of memory"))

@@ -1,10 +1,11 @@
 //! Calls that find their room, and are never refused for memory: that their callers need no answer
-//! for it is proved.
+//! for it is proved. And what becomes of a value that memory was refused for.
 use super::new_world;
 use super::player::{TalliedWorld, made_page};
 use crate::assert_equal::assert_equal;
 use crate::values::made_tally;
-use object_pool_cores::interleave::{Event, Prepared, Seen};
+use object_pool_cores::interleave::{Event, Prepared, RunError, Seen};
+use std::alloc::AllocFailed;
 use std::process::Abort;
 use test_values::tallied::Tallied;
 
@@ -36,15 +37,9 @@ fn a_second_page_is_made_in_the_room_of_the_first(rt: HostRuntime) {
     let (alloc, tally) = (rt.alloc(), made_tally(&rt));
     let mut world = new_world(alloc, &tally, None).expect(&rt, "memory is left");
     begin(&mut world, 34);
-    let seen = make_two(
-        &mut world,
-        made_page(alloc, &tally).expect(&rt, "values are made"),
-        made_page(alloc, &tally).expect(&rt, "values are made"),
-    );
-    assert_equal(&rt, seen, Seen::Made(33));
-    let first = world.step(Event::ExchangeNext(32));
-    let second = world.step(Event::ExchangeNext(33));
-    assert_equal(&rt, (first, second), (Seen::Linked(32), Seen::Lost(33)));
+    let first = made_page(alloc, &tally).expect(&rt, "values are made");
+    let second = made_page(alloc, &tally).expect(&rt, "values are made");
+    assert_equal(&rt, make_two(&mut world, first, second), Seen::Made(33));
 }
 
 #[test]
@@ -57,6 +52,13 @@ fn a_run_with_room_for_its_answers_is_done(rt: HostRuntime) {
     if world.run(events, &mut seen).is_err() {
         unreachable!();
     }
-    let wanted = [Seen::Began(0), Seen::Word(0, 4294967295)];
-    assert_equal(&rt, seen.as_slice(), wanted.as_slice());
+    assert_equal(&rt, seen.pop(), Some(Seen::Word(0, 4294967295)));
+}
+
+#[test]
+fn a_value_that_memory_was_refused_for_is_dropped(rt: HostRuntime) {
+    let tally = made_tally(&rt);
+    let value = Tallied::new(&tally);
+    let cause = RunError::from(AllocFailed { value });
+    assert_equal(&rt, (cause, tally.now()), (RunError::Memory, (1, 1)));
 }
