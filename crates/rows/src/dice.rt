@@ -26,4 +26,10 @@ impl Dice {
     pub fn one_in(&mut self, times: usize) -> bool {
         self.below(times) == 0
     }
+
+    /// Draws one of these words.
+    pub fn word_of(&mut self, words: &[&'static str]) -> &'static str {
+        let place = self.below(words.len());
+        words.get(place).copied().unwrap_or("")
+    }
 }

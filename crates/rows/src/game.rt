@@ -108,3 +108,90 @@ fn without_parts(
     }
     Ok(list)
 }
+
+/// Plays so many commands that are drawn by a seed. If an answer isn't fair, returns the shortest
+/// list that was found to fail.
+///
+/// # Errors
+///
+/// If memory for the list is refused.
+pub fn failing_list<G: Game>(
+    alloc: Global,
+    game: &mut G,
+    (seed, steps): (u64, usize),
+    trial: &impl Trial,
+) -> Result<Option<Vec<Command>>, AllocError> {
+    let mut list = Vec::new(alloc);
+    if played(game, &mut Dice::new(seed), steps, &mut list)?.is_none() {
+        return Ok(None);
+    }
+    Ok(Some(shrunk(alloc, list, trial)?))
+}
+
+/// A plain model of what a player plays on.
+pub trait PlainModel: Player {
+    /// Draws the next command.
+    fn draw(&mut self, dice: &mut Dice) -> Command;
+}
+
+/// A player beside a model: both have to say the same to each command, and then to `counts` and to
+/// `owners`.
+#[derive(Drop)]
+pub struct Beside<P, M> {
+    pub player: P,
+    pub model: M,
+}
+
+impl<P: Drop, M: Drop> Beside<P, M> {
+    /// Returns the player.
+    pub fn into_player(self) -> P {
+        self.player
+    }
+}
+
+impl<P: Player, M: Player> Beside<P, M> {
+    /// Plays commands of one word, so many turns, with numbers that go down to the first. Returns
+    /// the first answer that isn't the model's.
+    pub fn first_unfair(
+        &mut self,
+        word: &'static str,
+        first: usize,
+        turns: usize,
+    ) -> Option<Unfair> {
+        for turn in 0..turns {
+            let left = turns.wrapping_sub(turn).wrapping_sub(1);
+            let unfair = self.unfair(word, first.wrapping_add(left));
+            if unfair.is_some() {
+                return unfair;
+            }
+        }
+        None
+    }
+
+    fn unfair(&mut self, word: &'static str, number: usize) -> Option<Unfair> {
+        let command = Command {
+            word,
+            numbers: [number, 0, 0],
+        };
+        let said = self.player.play(command);
+        (said != self.model.play(command)).then_some(Unfair { command, said })
+    }
+}
+
+impl<P: Player, M: Player> Player for Beside<P, M> {
+    fn play(&mut self, command: Command) -> Said {
+        self.player.play(command)
+    }
+}
+
+impl<P: Player, M: PlainModel> Game for Beside<P, M> {
+    fn draw(&mut self, dice: &mut Dice) -> Command {
+        self.model.draw(dice)
+    }
+
+    fn is_fair(&mut self, command: Command, said: Said) -> bool {
+        said == self.model.play(command)
+            && self.unfair("counts", 0).is_none()
+            && self.unfair("owners", 0).is_none()
+    }
+}

@@ -38,8 +38,15 @@ impl Said {
         self.numbers.get(place).copied().flatten()
     }
 
-    /// Whether a row's answer says the same at this turn.
+    /// Whether a row's answer, or one of several, says the same at this turn.
     pub fn is_as(&self, wanted: &str, turn: usize) -> bool {
+        match wanted.split_once('|') {
+            Some((one, rest)) => self.is_one_as(one, turn) || self.is_one_as(rest, turn),
+            None => self.is_one_as(wanted, turn),
+        }
+    }
+
+    fn is_one_as(&self, wanted: &str, turn: usize) -> bool {
         if wanted == ".." {
             return true;
         }

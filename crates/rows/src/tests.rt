@@ -49,6 +49,7 @@ fn plays(rt: &impl Abort, commands: &'static str, answers: &'static str) {
 fn a_number_of_a_row_grows_with_the_turns(rt: HostRuntime) {
     plays(&rt, "add 1*3; add 2+*2; none*2", "is now 1+; .. ; nothing");
     plays(&rt, "add 1*3; add 2+*2; add 0", "is now _; ..; is now 8");
+    plays(&rt, "add 1*2", "is now 1|is now 2");
 }
 
 fn differs(commands: &'static str, answers: &'static str) -> Option<(usize, Said)> {
@@ -66,6 +67,7 @@ fn a_row_tells_where_it_differs(rt: HostRuntime) {
     assert_eq!(rt; differs("add 2", "is now 2 2"), Some((0, said)));
     assert_eq!(rt; differs("add 2", "is 2"), Some((0, said)));
     assert_eq!(rt; differs("add 2", "is now 2 really"), Some((0, said)));
+    assert_eq!(rt; differs("add 2", "is now 1|is now 3"), Some((0, said)));
 }
 
 fn is_bad(commands: &'static str, answers: &'static str) -> bool {

@@ -7,14 +7,14 @@ fn a_pool_drops_what_it_has(rt: HostRuntime) {
         &rt,
         33,
         "pull; pull; counts; forget 1; counts",
-        "pulled 0 0; pulled 1 1; made 33 reset 0 dropped 0; forgotten; made 33 reset 0 dropped 0",
+        "pulled 0 0; pulled 1 1; calls 33 resets 0 drops 0; forgotten; calls 33 resets 0 drops 0",
     );
 }
 
 /// The pool ends with the second of these items.
 #[test]
 fn a_last_owner_drops_what_the_pool_has(rt: HostRuntime) {
-    plays(&rt, 33, "owned*2; owners", "pulled 0+ 0+; owners 3 35");
+    plays(&rt, 33, "owned*2; owners", "pulled 0+ 0+; owners 3 34");
 }
 
 #[test]
@@ -23,7 +23,7 @@ fn a_refused_owned_pull_lets_its_pool_end(rt: HostRuntime) {
         &rt,
         1,
         "owned; owned; owners",
-        "pulled 0 0; refused limit; owners 2 3",
+        "pulled 0 0; refused limit; owners 2 2",
     );
 }
 
@@ -33,7 +33,7 @@ fn a_written_value_stays_with_its_item(rt: HostRuntime) {
         &rt,
         33,
         "pull*33; write 32 5; look 32; return 32; counts; pull; look 32",
-        "..; written; lies 1 0 5; returned; made 33 reset 1 dropped 0; pulled 32 5; lies 1 0 5",
+        "..; written; lies 1 0 5; returned; calls 33 resets 1 drops 0; pulled 32 5; lies 1 0 5",
     );
 }
 
@@ -205,7 +205,7 @@ fn an_owner_goes_into_its_item_and_comes_back(rt: HostRuntime) {
         &rt,
         33,
         "owner 1; again 0 1; owners; return 0; owners; items",
-        "pulled 32 32; pulled 32 32; owners 2 35; returned; owners 1 35; items 33",
+        "pulled 32 32; pulled 32 32; owners 2 34; returned; owners 1 34; items 33",
     );
 }
 
@@ -215,7 +215,7 @@ fn a_refused_owner_comes_back_with_its_note(rt: HostRuntime) {
         &rt,
         33,
         "pull*33; owner 1; owner_after 32 0; owners",
-        "..; refused limit; pulled 32 32; owners 2 35",
+        "..; refused limit; pulled 32 32; owners 2 34",
     );
 }
 
@@ -225,7 +225,7 @@ fn two_items_that_are_pulled_apart_are_two(rt: HostRuntime) {
         &rt,
         33,
         "two_apart 0; two_apart 1; pair; counts",
-        "two 0 1; two 32 0; two 32 0; made 33 reset 6 dropped 0",
+        "two 0 1; two 32 0; two 32 0; calls 33 resets 6 drops 0",
     );
 }
 
@@ -237,6 +237,6 @@ fn an_item_that_is_pulled_apart_goes_back_with_its_value(rt: HostRuntime) {
         "apart 1 7; apart_reset 1 8; near 1; pull*32; apart 1 9; return 32; apart 0 9; counts; \
          pull",
         "apart 32 32; apart 32 7; pulled 32 8; pulled 0+ 0+; refused limit; returned; apart 31 31; \
-         made 33 reset 4 dropped 0; pulled 31 9",
+         calls 33 resets 4 drops 0; pulled 31 9",
     );
 }

@@ -1,5 +1,5 @@
-//! Tests of the fixed pool by one thread: rows of commands, and games of random commands beside a
-//! plain model.
+//! Tests of the fixed pool: rows of commands, by one thread and by several, and games of random
+//! commands beside a plain model.
 #![tactic(auto)]
 
 #[cfg(test)]
@@ -14,3 +14,5 @@ mod no_memory;
 mod opened;
 #[cfg(test)]
 mod player;
+#[cfg(test)]
+mod threads;

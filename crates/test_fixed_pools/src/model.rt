@@ -1,4 +1,6 @@
 //! The plain model of a fixed pool: words of free items, values, and what is held.
+use rows::dice::Dice;
+use rows::game::PlainModel;
 use rows::row::{Command, Player};
 use rows::said::Said;
 use std::alloc::{AllocError, Global};
@@ -12,7 +14,7 @@ struct Held {
 
 /// What a fixed pool is to answer.
 #[derive(Drop)]
-pub struct Model {
+pub struct FixedModel {
     /// The free items of each page, item 0 as the lowest bit.
     words: Vec<u32>,
     values: Vec<usize>,
@@ -23,6 +25,8 @@ pub struct Model {
     places: usize,
     held: Vec<Held>,
     resets: usize,
+    /// Whether more items are pulled than come back.
+    is_rising: bool,
 }
 
 /// How a pull goes on past its first page.
@@ -32,9 +36,9 @@ enum Order {
     Hinted,
 }
 
-impl Model {
+impl FixedModel {
     /// Creates the model of a new pool of so many items.
-    pub fn new(alloc: Global, items: usize) -> Result<Model, AllocError> {
+    pub fn new(alloc: Global, items: usize) -> Result<FixedModel, AllocError> {
         let pages = items.div_ceil(32);
         let mut words = Vec::with_capacity(alloc, pages)?;
         let mut values = Vec::with_capacity(alloc, items)?;
@@ -45,7 +49,7 @@ impl Model {
         for number in 0..items {
             values.push(number)?;
         }
-        Ok(Model {
+        Ok(FixedModel {
             words,
             values,
             hint: 0,
@@ -53,11 +57,12 @@ impl Model {
             places: 1,
             held: Vec::new(alloc),
             resets: 0,
+            is_rising: true,
         })
     }
 }
 
-impl Model {
+impl FixedModel {
     /// The page of this number, counted round and round.
     fn page_round(&self, page: usize) -> usize {
         page.checked_rem(self.words.len()).unwrap_or(0)
@@ -235,16 +240,16 @@ impl Model {
         }
     }
 
-    /// How many own the pool, and how many own the tally of its values and its reset.
+    /// How many own the pool, and how many own the tally of its values.
     fn owners(&self) -> Said {
         let owned = self.held.iter().filter(|held| held.is_owned).count();
         Said::of("owners")
             .and(owned.wrapping_add(1))
-            .and(self.values.len().wrapping_add(2))
+            .and(self.values.len().wrapping_add(1))
     }
 }
 
-impl Player for Model {
+impl Player for FixedModel {
     fn play(&mut self, command: Command) -> Said {
         let [first, second, _] = command.numbers;
         match command.word {
@@ -258,7 +263,7 @@ impl Player for Model {
             "two_apart" => self.two(first, Order::Hinted),
             "pair" => self.two(self.hint, Order::Round),
             "items" => Said::of("items").and(self.values.len()),
-            "counts" => Said::of("made reset dropped")
+            "counts" => Said::of("calls resets drops")
                 .and(self.values.len())
                 .and(self.resets)
                 .and(0),
@@ -270,18 +275,76 @@ impl Player for Model {
     }
 }
 
-impl Model {
-    /// How many items are held.
-    pub fn held(&self) -> usize {
-        self.held.len()
+/// Pulls of one item that is held then.
+const PULLS: [&str; 6] = ["pull", "near", "here", "try", "owned", "owner"];
+
+/// Calls after which as many items are held as before.
+const CALLS: [&str; 8] = [
+    "place",
+    "apart",
+    "apart_reset",
+    "two_apart",
+    "pair",
+    "items",
+    "look",
+    "write",
+];
+
+/// Calls with an item that is held, which mostly leaves.
+const LEAVES: [&str; 9] = [
+    "return",
+    "return",
+    "return",
+    "give",
+    "give",
+    "again",
+    "after",
+    "owner_after",
+    "return",
+];
+
+impl FixedModel {
+    /// Draws a page: one of the pool, or seldom one far past it.
+    fn draw_page(&self, dice: &mut Dice) -> usize {
+        let page = dice.below(self.words.len().wrapping_add(2));
+        if dice.one_in(8) {
+            usize::MAX.wrapping_sub(page)
+        } else {
+            page
+        }
     }
 
-    /// Whether each item is in use.
-    pub fn is_full(&self) -> bool {
-        self.words.iter().all(|word| *word == 0)
+    /// Draws a command's word, and its first two numbers: a page, or an item that is held, and a
+    /// value or a page.
+    fn draw_word(&self, dice: &mut Dice) -> (&'static str, usize, usize) {
+        let (page, held) = (self.draw_page(dice), dice.below(self.held.len()));
+        if dice.one_in(8) {
+            let word = dice.word_of(&CALLS);
+            let is_of_held = word == "look" || word == "write";
+            let first = if is_of_held { held } else { page };
+            return (word, first, dice.below(1_000_000));
+        }
+        if dice.one_in(8) != self.is_rising {
+            return (dice.word_of(&PULLS), page, 0);
+        }
+        if dice.one_in(100) {
+            return ("forget", held, 0);
+        }
+        (dice.word_of(&LEAVES), held, page)
     }
+}
 
-    pub fn pages(&self) -> usize {
-        self.words.len()
+impl PlainModel for FixedModel {
+    fn draw(&mut self, dice: &mut Dice) -> Command {
+        if self.held.is_empty() {
+            self.is_rising = true;
+        } else if self.words.iter().all(|word| *word == 0) && dice.one_in(16) {
+            self.is_rising = false;
+        }
+        let (word, first, second) = self.draw_word(dice);
+        Command {
+            word,
+            numbers: [first, second, 0],
+        }
     }
 }

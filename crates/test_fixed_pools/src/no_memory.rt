@@ -7,10 +7,10 @@ use crate::opened::opened;
 use crate::player::{FixedPlayer, Pool};
 use fixed_pools::page::{PageId, PullPass};
 use rows::row::first_difference;
+use rows::setting::Setting;
 use std::process::Abort;
 use std::sync::Arc;
 use test_values::counted::NEVER;
-use test_values::tally::new_tally;
 
 /// Pulls of a fixed pool.
 fn pull_fixed(pool: &Pool) -> Option<(usize, usize, PageId)> {
@@ -54,10 +54,10 @@ fn is_ready(rt: &(impl Abort + Print)) {
 
 #[test]
 fn calls_of_a_fixed_pool_ask_for_no_memory(rt: HostRuntime) {
-    let Ok(tally) = new_tally(rt.alloc()) else {
+    let Ok(setting) = Setting::new(rt.alloc(), NEVER) else {
         return;
     };
-    let Ok(pool) = opened(rt.alloc(), &tally, 40, NEVER) else {
+    let Ok(pool) = opened(rt.alloc(), &setting, 40) else {
         return;
     };
     is_ready(&rt);
@@ -69,13 +69,13 @@ fn calls_of_a_fixed_pool_ask_for_no_memory(rt: HostRuntime) {
 /// Owned items and borrowed ones of three pages come back, and are pulled again.
 #[test]
 fn turns_of_a_fixed_pool_ask_for_no_memory(rt: HostRuntime) {
-    let Ok(tally) = new_tally(rt.alloc()) else {
+    let Ok(setting) = Setting::new(rt.alloc(), NEVER) else {
         return;
     };
-    let Ok(pool) = opened(rt.alloc(), &tally, 96, NEVER) else {
+    let Ok(pool) = opened(rt.alloc(), &setting, 96) else {
         return;
     };
-    let Ok(mut player) = FixedPlayer::new(rt.alloc(), &pool, &tally, 96) else {
+    let Ok(mut player) = FixedPlayer::new(rt.alloc(), &pool, &setting, 96) else {
         return;
     };
     is_ready(&rt);

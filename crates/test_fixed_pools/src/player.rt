@@ -2,42 +2,25 @@
 //!
 //! A command's numbers are a held item's index (among those that are held, oldest first), a page,
 //! or a value to be written. The answer to a pull is `pulled`, the item's number and its value.
-ghost use Rattle.std.specs.Prelude.{◌≡◌, ◌≢◌, IfSome, ⊤};
+ghost use Rattle.std.specs.Prelude.{◌≡◌, ◌≢◌, IfOk};
 ghost use Rattle.fixed_pools.specs.FixedPool.{fixed_view};
 
 use fixed_pools::fixed_object_pool::{Near, PoolNote};
 use fixed_pools::page::PullPass;
 use fixed_pools::{FixedObjectPool, FixedOwnedReusable, FixedReusable, PullError};
-use pool_parts::clean::AnyValue;
-use pool_parts::closures::Reset;
 use rows::row::{Command, Player};
 use rows::said::Said;
+use rows::setting::{Makes, Resets, Setting, refused, said_of_two};
 use std::alloc::{AllocError, Global};
-use std::mem;
 use std::sync::Arc;
-use test_values::tallied::{Tallied, TalliedValues};
-use test_values::tally::Tally;
+use std::{mem, thread};
+use test_values::tallied::Tallied;
 
-/// A reset that changes nothing and is counted.
-#[derive(Drop)]
-pub struct CountedReset {
-    pub tally: Arc<Tally>,
-}
+pub type Pool = FixedObjectPool<Tallied, Makes, Resets>;
 
-impl Reset<Tallied, AnyValue> for CountedReset {
-    ghost leaves = { λ _ _ _. ⊤ };
+type Borrowed<'p> = FixedReusable<'p, Tallied, Makes, Resets>;
 
-    fn reset(&self, value: &mut Tallied) {
-        let _ = value;
-        self.tally.count_reset();
-    }
-}
-
-pub type Pool = FixedObjectPool<Tallied, TalliedValues, CountedReset>;
-
-type Borrowed<'p> = FixedReusable<'p, Tallied, TalliedValues, CountedReset>;
-
-pub type Owned = FixedOwnedReusable<Tallied, TalliedValues, CountedReset>;
+pub type Owned = FixedOwnedReusable<Tallied, Makes, Resets>;
 
 /// An item, however it was pulled.
 #[derive(Drop)]
@@ -172,8 +155,15 @@ fn by_owner_again(held: Owned, page: usize) -> Result<Owned, PullError> {
 
 /// Pulls an item apart from the pool and returns it with this number, which the pool resets first,
 /// or by two calls. The item's number, and what its value was.
-fn apart(pool: &Pool, page: usize, number: usize, is_reset: bool) -> Option<(usize, usize)> {
-    let (holding, mut value) = pool.pull_apart(page).ok()?;
+fn apart(
+    pool: &Pool,
+    page: usize,
+    number: usize,
+    is_reset: bool,
+) -> Result<(usize, usize), PullError> {
+    let Ok((holding, mut value)) = pool.pull_apart(page) else {
+        return Err(PullError::Limit);
+    };
     let seen = (holding.number, value.number);
     value.number = number;
     if is_reset {
@@ -182,54 +172,55 @@ fn apart(pool: &Pool, page: usize, number: usize, is_reset: bool) -> Option<(usi
     } else {
         pool.give(holding, value);
     }
-    Some(seen)
+    Ok(seen)
 }
 
 /// The numbers of two items that are pulled apart, after which both go back.
-fn two_apart(pool: &Pool, page: usize) -> Option<(usize, usize)>
-    ensures differ { IfSome result (λ numbers. numbers.0 ≢ numbers.1) }
+fn two_apart(pool: &Pool, page: usize) -> Result<(usize, usize), PullError>
+    ensures differ { IfOk result (λ numbers. numbers.0 ≢ numbers.1) }
 {
-    let (mut one, value) = pool.pull_apart(page).ok()?;
+    let Ok((mut one, value)) = pool.pull_apart(page) else {
+        return Err(PullError::Limit);
+    };
     let Ok((mut other, others_value)) = pool.pull_apart(page) else {
         pool.give(one, value);
-        return None;
+        return Err(PullError::Limit);
     };
     pool.are_two(&mut one, &mut other);
     let numbers = (one.number, other.number);
     pool.give(one, value);
     pool.give(other, others_value);
-    Some(numbers)
+    Ok(numbers)
 }
 
 /// The numbers of a borrowed and an owned item, of which the first comes back first.
-fn pair(pool: &Arc<Pool>) -> Option<(usize, usize)>
-    ensures differ { IfSome result (λ numbers. numbers.0 ≢ numbers.1) }
+fn pair(pool: &Arc<Pool>) -> Result<(usize, usize), PullError>
+    ensures differ { IfOk result (λ numbers. numbers.0 ≢ numbers.1) }
 {
-    let mut one = pool.pull().ok()?;
-    let mut other = pool.pull_owned().ok()?;
+    let mut one = pool.pull()?;
+    let mut other = pool.pull_owned()?;
     let numbers = (one.number(), other.number());
     one.differs_from(&mut other);
     drop(one);
-    Some(numbers)
+    Ok(numbers)
 }
 
-/// What is said of two numbers, or that there is no item.
-fn said_of(words: &'static str, numbers: Option<(usize, usize)>) -> Said {
-    match numbers {
-        Some((one, other)) => Said::of(words).and(one).and(other),
-        None => Said::of("refused limit"),
-    }
+/// Whether a pull was refused. What it gave comes back at once.
+fn is_refused<X: Drop>(pulled: Result<X, PullError>) -> bool {
+    pulled.is_err()
 }
 
 /// A pool, and what is held of it.
 #[derive(Drop)]
 pub struct FixedPlayer<'p> {
     pool: &'p Arc<Pool>,
-    tally: &'p Arc<Tally>,
-    near: Near<'p, Tallied, TalliedValues, CountedReset>,
+    setting: &'p Arc<Setting>,
+    near: Near<'p, Tallied, Makes, Resets>,
     held: Vec<Item<'p>>,
     /// How many items were forgotten, which stay out for good.
     pub forgotten: usize,
+    /// What this player alone writes by `often`.
+    pub mark: usize,
 }
 
 impl<'p> FixedPlayer<'p> {
@@ -237,15 +228,16 @@ impl<'p> FixedPlayer<'p> {
     pub fn new(
         alloc: Global,
         pool: &'p Arc<Pool>,
-        tally: &'p Arc<Tally>,
+        setting: &'p Arc<Setting>,
         room: usize,
     ) -> Result<FixedPlayer<'p>, AllocError> {
         Ok(FixedPlayer {
             pool,
-            tally,
+            setting,
             near: pool.near(),
             held: Vec::with_capacity(alloc, room)?,
             forgotten: 0,
+            mark: 0,
         })
     }
 
@@ -259,9 +251,7 @@ impl<'p> FixedPlayer<'p> {
                     Err(_) => Said::of("no room"),
                 }
             }
-            Err(PullError::Limit) => Said::of("refused limit"),
-            Err(PullError::Memory) => Said::of("refused memory"),
-            Err(_) => Said::of("refused"),
+            Err(cause) => refused(cause),
         }
     }
 
@@ -315,20 +305,36 @@ impl<'p> FixedPlayer<'p> {
         }
     }
 
-    /// How often values were made, reset and dropped.
-    fn counts(&self) -> Said {
-        Said::of("made reset dropped")
-            .and(self.tally.made())
-            .and(self.tally.resets())
-            .and(self.tally.drops())
+    /// Pulls, writes the mark and returns, so often. Says how often another wrote to the item.
+    fn often(&self, rounds: usize) -> Said {
+        let mut wrong = 0usize;
+        for _ in 0..rounds {
+            let Ok(mut item) = self.pool.pull() else {
+                continue;
+            };
+            item.number = self.mark;
+            thread::yield_now();
+            if item.number != self.mark {
+                wrong = wrong.wrapping_add(1);
+            }
+        }
+        Said::of("wrong").and(wrong)
     }
 
-    /// How many own the pool, and how many own the tally: each value that there is, the reset, and
-    /// one beside the pool.
-    fn owners(&self) -> Said {
-        Said::of("owners")
-            .and(Arc::strong_count(self.pool))
-            .and(Arc::strong_count(self.tally))
+    /// Pulls and returns so often in each way. Says how often that was refused.
+    fn each_way(&self, rounds: usize) -> Said {
+        let mut refusals = 0usize;
+        for round in 0..rounds {
+            let is_refused = is_refused(self.pool.pull())
+                || is_refused(self.near.pull())
+                || is_refused(self.pool.pull_near(round))
+                || is_refused(self.pool.pull_owned())
+                || is_refused(by_owner(self.pool, round));
+            if is_refused {
+                refusals = refusals.wrapping_add(1);
+            }
+        }
+        Said::of("refused").and(refusals)
     }
 
     /// The owned items that are held. The borrowed ones come back.
@@ -361,16 +367,17 @@ impl<'p> Player for FixedPlayer<'p> {
                 self.near = pool.near();
                 Said::of("at page").and(self.near.page_number())
             }
-            "apart" => said_of("apart", apart(pool, first, second, false)),
-            "apart_reset" => said_of("apart", apart(pool, first, second, true)),
-            "two_apart" => said_of("two", two_apart(pool, first)),
-            "pair" => said_of("two", pair(pool)),
+            "apart" => said_of_two("apart", apart(pool, first, second, false)),
+            "apart_reset" => said_of_two("apart", apart(pool, first, second, true)),
+            "two_apart" => said_of_two("two", two_apart(pool, first)),
+            "pair" => said_of_two("two", pair(pool)),
             "items" => Said::of("items").and(pool.items()),
-            "counts" => self.counts(),
-            "owners" => self.owners(),
+            "often" => self.often(first),
+            "each_way" => self.each_way(first),
+            "owners" => self.setting.owners(Arc::strong_count(pool)),
             "look" | "write" | "after" => self.use_held(command),
             "return" | "give" | "again" | "owner_after" | "forget" => self.leave(command),
-            _ => Said::of("no such command"),
+            _ => self.setting.play(command),
         }
     }
 }

@@ -16,6 +16,7 @@ fn a_written_five_comes_again_where_reset_keeps_it(rt: HostRuntime) {
 fn an_item_is_reset_to_zero_twice(rt: HostRuntime) {
     plays_often(
         &rt,
+        0,
         2,
         "zero; pull; write 0 1; return 0",
         "set; pulled 0 0; written; returned",
@@ -26,6 +27,7 @@ fn an_item_is_reset_to_zero_twice(rt: HostRuntime) {
 fn ten_pulls_in_turn_count_up_from_zero_in_the_first_item(rt: HostRuntime) {
     plays_often(
         &rt,
+        0,
         10,
         "zero; pull; write 0 1; look 0; write 0 2; look 0; return 0",
         "set; pulled 0 0; written; lies 0 1; written; lies 0 2; returned",

@@ -1,5 +1,5 @@
-//! Tests of the linear pool by one thread: rows of commands, and games of random commands beside a
-//! plain model.
+//! Tests of the linear pool: rows of commands, by one thread and by several, and games of random
+//! commands beside a plain model.
 #![tactic(auto)]
 
 #[cfg(test)]
@@ -14,3 +14,5 @@ mod opened;
 mod player;
 #[cfg(test)]
 mod refused;
+#[cfg(test)]
+mod threads;

@@ -1,4 +1,6 @@
 //! The plain model of a linear pool: the items of each page, and what is held.
+use rows::dice::Dice;
+use rows::game::PlainModel;
 use rows::row::{Command, Player};
 use rows::said::Said;
 use std::alloc::{AllocError, Global};
@@ -12,7 +14,7 @@ struct Held {
 
 /// What a linear pool is to answer.
 #[derive(Drop)]
-pub struct Model {
+pub struct LinearModel {
     /// The free items of each page, item 0 as the lowest bit.
     words: Vec<u32>,
     /// How many pages there may be, 0 without a limit.
@@ -25,15 +27,20 @@ pub struct Model {
     /// The call that `init` refuses.
     refused: usize,
     zeroes: bool,
+    /// How many items are held at most.
+    most: usize,
+    /// Whether more items are pulled than come back.
+    is_rising: bool,
 }
 
 /// What a pull takes, or why it takes nothing.
 type Taken = Result<usize, Said>;
 
-impl Model {
-    /// Creates the model of a new pool that may have so many pages.
-    pub fn new(alloc: Global, limit: usize) -> Result<Model, AllocError> {
-        let mut model = Model {
+impl LinearModel {
+    /// Creates the model of a new pool that may have so many pages, and of which so many items are
+    /// held at most.
+    pub fn new(alloc: Global, limit: usize, most: usize) -> Result<LinearModel, AllocError> {
+        let mut model = LinearModel {
             words: Vec::new(alloc),
             limit,
             values: Vec::new(alloc),
@@ -43,14 +50,11 @@ impl Model {
             drops: 0,
             refused: usize::MAX,
             zeroes: false,
+            most,
+            is_rising: true,
         };
         drop(model.grow());
         Ok(model)
-    }
-
-    /// How many items are held.
-    pub fn held(&self) -> usize {
-        self.held.len()
     }
 
     /// Makes a page. If `init` refuses, what was made is dropped.
@@ -226,7 +230,7 @@ impl Model {
     }
 }
 
-impl Player for Model {
+impl Player for LinearModel {
     fn play(&mut self, command: Command) -> Said {
         match command.word {
             "pull" | "try" => self.pull(false),
@@ -244,6 +248,55 @@ impl Player for Model {
             "return" | "give" | "forget" => self.leave(command),
             "refuse" | "zero" => self.set(command),
             _ => Said::of("no such command"),
+        }
+    }
+}
+
+/// Pulls of one item that is held then.
+const PULLS: [&str; 5] = ["pull", "pull", "try", "again", "owned"];
+
+/// Calls after which as many items are held as before.
+const CALLS: [&str; 8] = [
+    "apart", "pair", "apart", "pair", "limit", "look", "write", "tell",
+];
+
+/// Calls by which a held item comes back.
+const RETURNS: [&str; 3] = ["return", "return", "give"];
+
+impl LinearModel {
+    /// Draws a command's word, and its first number.
+    fn draw_word(&mut self, dice: &mut Dice) -> (&'static str, usize) {
+        let held = dice.below(self.held.len());
+        if dice.one_in(200) {
+            return ("zero", 0);
+        }
+        if dice.one_in(40) {
+            return ("refuse", dice.below(70));
+        }
+        if dice.one_in(8) {
+            return (dice.word_of(&CALLS), held);
+        }
+        if dice.one_in(8) != self.is_rising {
+            return (dice.word_of(&PULLS), 0);
+        }
+        if dice.one_in(200) {
+            return ("forget", held);
+        }
+        (dice.word_of(&RETURNS), held)
+    }
+}
+
+impl PlainModel for LinearModel {
+    fn draw(&mut self, dice: &mut Dice) -> Command {
+        if self.held.is_empty() {
+            self.is_rising = true;
+        } else if self.held.len() >= self.most && dice.one_in(16) {
+            self.is_rising = false;
+        }
+        let (word, first) = self.draw_word(dice);
+        Command {
+            word,
+            numbers: [first, dice.below(1_000_000), 0],
         }
     }
 }

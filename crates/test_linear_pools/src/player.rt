@@ -3,62 +3,15 @@
 //! A command's first number is a held item's index (among those that are held, oldest first), the
 //! second a value to be written. The answer to a pull is `pulled`, the item's number (32 times that
 //! of its page, and that in the page) and its value.
-ghost use Rattle.std.specs.Prelude.{◌≢◌, IfSome, ⊤};
-
 use linear_pools::page::PullPass;
 use linear_pools::{LinearObjectPool, LinearOwnedReusable, LinearReusable, PullError};
-use pool_parts::clean::AnyValue;
-use pool_parts::closures::{Init, Reset};
 use rows::row::{Command, Player};
 use rows::said::Said;
+use rows::setting::{Makes, Resets, Setting, refused, said_of_two};
 use std::alloc::{AllocError, Global};
-use std::mem;
 use std::sync::Arc;
-use std::sync::atomic::AtomicUsize;
-use std::sync::atomic::Ordering::SeqCst;
+use std::{mem, thread};
 use test_values::tallied::Tallied;
-use test_values::tally::Tally;
-
-/// What a pool's function objects share with the player.
-#[derive(Drop)]
-pub struct Shared {
-    pub tally: Arc<Tally>,
-    /// The call that `init` refuses, counted from 0.
-    pub refused: AtomicUsize,
-    /// Whether a reset writes 0. Else it changes nothing.
-    pub zeroes: AtomicUsize,
-}
-
-/// Makes counted values and refuses one.
-#[derive(Drop)]
-pub struct Makes {
-    pub shared: Arc<Shared>,
-}
-
-impl Init<Tallied, AnyValue> for Makes {
-    ghost answers = { λ _ _. ⊤ };
-
-    fn make(&self) -> Option<Tallied> {
-        Tallied::new_but(&self.shared.tally, self.shared.refused.load(SeqCst))
-    }
-}
-
-/// Counts what it resets.
-#[derive(Drop)]
-pub struct Resets {
-    pub shared: Arc<Shared>,
-}
-
-impl Reset<Tallied, AnyValue> for Resets {
-    ghost leaves = { λ _ _ _. ⊤ };
-
-    fn reset(&self, value: &mut Tallied) {
-        self.shared.tally.count_reset();
-        if self.shared.zeroes.load(SeqCst) > 0 {
-            value.number = 0;
-        }
-    }
-}
 
 pub type Pool = LinearObjectPool<Tallied, Makes, Resets>;
 
@@ -181,31 +134,16 @@ fn pair(pool: &Pool) -> Result<(usize, usize), PullError> {
     Ok(numbers)
 }
 
-/// What is said of two numbers, or why there are none.
-fn said_of(words: &'static str, numbers: Result<(usize, usize), PullError>) -> Said {
-    match numbers {
-        Ok((one, other)) => Said::of(words).and(one).and(other),
-        Err(cause) => refused(cause),
-    }
-}
-
-fn refused(cause: PullError) -> Said {
-    match cause {
-        PullError::Limit => Said::of("refused limit"),
-        PullError::Init => Said::of("refused init"),
-        PullError::Memory => Said::of("refused memory"),
-        PullError::Closed => Said::of("closed"),
-    }
-}
-
 /// A pool, and what is held of it.
 #[derive(Drop)]
 pub struct LinearPlayer<'p> {
     pool: &'p Arc<Pool>,
-    shared: &'p Arc<Shared>,
+    setting: &'p Arc<Setting>,
     held: Vec<Item<'p>>,
     /// How many items were forgotten, which stay out for good.
     pub forgotten: usize,
+    /// What this player alone writes by `often`.
+    pub mark: usize,
 }
 
 impl<'p> LinearPlayer<'p> {
@@ -213,14 +151,15 @@ impl<'p> LinearPlayer<'p> {
     pub fn new(
         alloc: Global,
         pool: &'p Arc<Pool>,
-        shared: &'p Arc<Shared>,
+        setting: &'p Arc<Setting>,
         room: usize,
     ) -> Result<LinearPlayer<'p>, AllocError> {
         Ok(LinearPlayer {
             pool,
-            shared,
+            setting,
             held: Vec::with_capacity(alloc, room)?,
             forgotten: 0,
+            mark: 0,
         })
     }
 
@@ -281,33 +220,24 @@ impl<'p> LinearPlayer<'p> {
         }
     }
 
-    /// Sets what the function objects do from here on.
-    fn set(&self, command: Command) -> Said {
-        let tally = &self.shared.tally;
-        if command.word == "refuse" {
-            let call = tally.calls().wrapping_add(command.numbers[0]);
-            self.shared.refused.store(call, SeqCst);
-        } else {
-            self.shared.zeroes.store(1, SeqCst);
+    /// Pulls, writes the mark and returns, so often. Says how often the item didn't have the value of
+    /// a reset, or another wrote to it.
+    fn often(&self, rounds: usize) -> Said {
+        let mut wrong = rounds;
+        for round in 0..rounds {
+            let Ok(mut item) = self.pool.pull() else {
+                continue;
+            };
+            let was_reset = item.number == 0;
+            item.number = self.mark;
+            if round % 2 == 0 {
+                thread::yield_now();
+            }
+            if was_reset && item.number == self.mark {
+                wrong = wrong.wrapping_sub(1);
+            }
         }
-        Said::of("set")
-    }
-
-    /// How often `init` was called, and values were reset and dropped.
-    fn counts(&self) -> Said {
-        let tally = &self.shared.tally;
-        Said::of("calls resets drops")
-            .and(tally.calls())
-            .and(tally.resets())
-            .and(tally.drops())
-    }
-
-    /// How many own the pool, and how many own the tally: each value that there is, and one beside
-    /// the pool.
-    fn owners(&self) -> Said {
-        Said::of("owners")
-            .and(Arc::strong_count(self.pool))
-            .and(Arc::strong_count(&self.shared.tally))
+        Said::of("wrong").and(wrong)
     }
 
     fn limit(&self) -> Said {
@@ -338,15 +268,14 @@ impl<'p> Player for LinearPlayer<'p> {
             "try" => self.hold(borrowed(tried(pool))),
             "again" => self.hold(borrowed(tried_again(pool))),
             "owned" => self.hold(owned(pool.pull_owned())),
-            "apart" => said_of("apart", apart(pool, written)),
-            "pair" => said_of("two", pair(pool)),
+            "apart" => said_of_two("apart", apart(pool, written)),
+            "pair" => said_of_two("two", pair(pool)),
+            "often" => self.often(written),
             "limit" => self.limit(),
-            "counts" => self.counts(),
-            "owners" => self.owners(),
+            "owners" => self.setting.owners(Arc::strong_count(pool)),
             "look" | "write" | "tell" => self.use_held(command),
             "return" | "give" | "forget" => self.leave(command),
-            "refuse" | "zero" => self.set(command),
-            _ => Said::of("no such command"),
+            _ => self.setting.play(command),
         }
     }
 }

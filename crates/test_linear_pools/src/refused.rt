@@ -4,75 +4,71 @@
 //! Each test that prints does so when it has all that it needs. `ci/refuse_memory` refuses each
 //! request of these tests in turn, and fails where one comes after that line. Before it, a request
 //! that is refused ends the test.
-use crate::opened::{opened, shared};
-use crate::player::{LinearPlayer, Pool, Shared};
+use crate::opened::opened;
+use crate::player::{LinearPlayer, Pool};
 use linear_pools::PullError;
 use linear_pools::page::{PageId, PullPass};
 use rows::row::{Command, Player, first_difference};
 use rows::said::Said;
+use rows::setting::Setting;
 use std::alloc::Global;
 use std::process::Abort;
 use std::sync::Arc;
 use test_values::again;
 use test_values::counted::NEVER;
 
-/// A pool that may have so many pages, and what it shares. Where memory was refused, each comes by
-/// a second try.
-fn open(rt: &impl Abort, alloc: Global, limit: usize) -> (Arc<Pool>, Arc<Shared>) {
-    let shared = again!(shared(alloc, NEVER)).expect(rt, "memory is left");
-    let pool = again!(opened(alloc, &shared, limit)).expect(rt, "a pool is made");
-    (pool, shared)
-}
-
 /// Past a page of items that are held, a pull is met or refused for memory. Then the second page's
 /// first item is there. A pool that is opened by a second try has later values than the first.
-fn goes_on(rt: &impl Abort, player: &mut LinearPlayer<'_>, shared: &Shared, word: &'static str) {
+fn goes_on(rt: &(impl Abort + AllocGlobal), limit: usize, word: &'static str) {
+    let setting = again!(Setting::new(rt.alloc(), NEVER)).expect(rt, "memory is left");
+    let pool = again!(opened(rt.alloc(), &setting, limit)).expect(rt, "a pool is made");
+    let Ok(mut player) = LinearPlayer::new(rt.alloc(), &pool, &setting, 34) else {
+        return;
+    };
     let pull = Command {
         word,
         numbers: [0; 3],
     };
-    assert_eq!(*rt; first_difference(player, "pull*32", "pulled 0+ _"), None);
+    assert_eq!(*rt;
+        first_difference(&mut player, "pull*32", "pulled 0+ _"),
+        None
+    );
     let said = player.play(pull);
     if said == Said::of("refused memory") {
-        assert_eq!(*rt; shared.tally.living(), 32);
+        assert_eq!(*rt; setting.tally.living(), 32);
         assert!(*rt; player.play(pull).is_as("pulled 32 _", 0));
     } else {
         assert!(*rt; said.is_as("pulled 32 _", 0));
     }
-    assert_eq!(*rt; shared.tally.living(), 64);
-    assert_eq!(*rt;
-        first_difference(player, "return 32; pull", "returned; pulled 32 _"),
-        None
-    );
+    assert_eq!(*rt; setting.tally.living(), 64);
+    let (commands, answers) = ("return 32; pull", "returned; pulled 32 _");
+    assert_eq!(*rt; first_difference(&mut player, commands, answers), None);
 }
 
 /// Holds with each request for memory refused in turn too.
 #[test]
 fn a_pool_goes_on_where_memory_was_refused(rt: HostRuntime) {
-    let (pool, shared) = open(&rt, rt.alloc(), 0);
-    if let Ok(mut player) = LinearPlayer::new(rt.alloc(), &pool, &shared, 34) {
-        goes_on(&rt, &mut player, &shared, "pull");
-    }
+    goes_on(&rt, 0, "pull");
 }
 
 /// Holds with each request for memory refused in turn too.
 #[test]
 fn owned_pulls_go_on_where_memory_was_refused(rt: HostRuntime) {
-    let (pool, shared) = open(&rt, rt.alloc(), 2);
-    if let Ok(mut player) = LinearPlayer::new(rt.alloc(), &pool, &shared, 34) {
-        goes_on(&rt, &mut player, &shared, "owned");
-    }
+    goes_on(&rt, 2, "owned");
 }
 
 /// Holds with each request for memory refused in turn too.
 #[test]
 fn what_a_linear_pool_owns_is_dropped_where_memory_was_refused(rt: HostRuntime) {
-    let Ok(shared) = shared(rt.alloc(), NEVER) else {
+    let Ok(setting) = Setting::new(rt.alloc(), NEVER) else {
         return;
     };
-    let refusal = opened(rt.alloc(), &shared, 2).err();
+    let refusal = opened(rt.alloc(), &setting, 2).err();
     assert!(rt; matches!(refusal, None | Some(PullError::Memory)));
-    assert_eq!(rt; (shared.tally.living(), Arc::strong_count(&shared)), (0, 1));
+    assert_eq!(rt;
+        (setting.tally.living(), Arc::strong_count(&setting)),
+        (0, 1)
+    );
 }
 
 /// Prints that no memory is asked for from here on.
@@ -107,10 +103,10 @@ fn pull_linear_owned(pool: &Arc<Pool>) -> Option<(usize, PageId)> {
 
 #[test]
 fn calls_of_a_linear_pool_ask_for_no_memory(rt: HostRuntime) {
-    let Ok(shared) = shared(rt.alloc(), NEVER) else {
+    let Ok(setting) = Setting::new(rt.alloc(), NEVER) else {
         return;
     };
-    let Ok(pool) = opened(rt.alloc(), &shared, 0) else {
+    let Ok(pool) = opened(rt.alloc(), &setting, 0) else {
         return;
     };
     is_ready(&rt);
@@ -121,13 +117,13 @@ fn calls_of_a_linear_pool_ask_for_no_memory(rt: HostRuntime) {
 /// Owned items and borrowed ones of three pages come back, and are pulled again.
 #[test]
 fn turns_of_a_linear_pool_ask_for_no_memory(rt: HostRuntime) {
-    let Ok(shared) = shared(rt.alloc(), NEVER) else {
+    let Ok(setting) = Setting::new(rt.alloc(), NEVER) else {
         return;
     };
-    let Ok(pool) = opened(rt.alloc(), &shared, 3) else {
+    let Ok(pool) = opened(rt.alloc(), &setting, 3) else {
         return;
     };
-    let Ok(mut player) = LinearPlayer::new(rt.alloc(), &pool, &shared, 96) else {
+    let Ok(mut player) = LinearPlayer::new(rt.alloc(), &pool, &setting, 96) else {
         return;
     };
     if first_difference(
