@@ -1,7 +1,6 @@
-//! Tests of the fixed pool: threads, and callers that rest on its history.
+//! Tests of the fixed pool: permits, messages, and callers that rest on its history.
 mod callers;
 mod messages;
 mod numbers;
-mod refusals;
+mod permits;
 mod sends;
-mod threads;

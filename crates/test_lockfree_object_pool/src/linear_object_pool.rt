@@ -11,43 +11,20 @@ use std::mem;
 use std::process::Abort;
 use std::sync::Arc;
 use std::sync::atomic::AtomicUsize;
-use std::sync::atomic::Ordering::SeqCst;
 use test_values::zeros::{CountedZeros, ToZero, Zero};
 
 mod callers;
 mod histories;
-mod late_links;
 mod limits;
 mod makers;
 mod origins;
 mod sends;
-mod threads;
 
 /// A pool that resets to 0.
 type ClearedPool = LinearObjectPool<u32, CountedZeros, ToZero, Zero>;
 
 /// The same, or a refusal.
 type Cleared = Result<ClearedPool, PullError>;
-
-/// A borrow of a pool, which gives items of one type.
-trait Gives<A>: Copy {
-    /// Pulls an item.
-    fn pull_one(self) -> Result<A, PullError>;
-
-    /// Returns the number of an item's page, and its number in the page.
-    fn place(item: &A) -> (usize, u8);
-}
-
-impl<'p, T: Drop, I: Init<T, K>, R: Reset<T, K>, K: Clean<T>> Gives<LinearReusable<'p, T, I, R, K>>
-    for &'p LinearObjectPool<T, I, R, K> {
-    fn pull_one(self) -> Result<LinearReusable<'p, T, I, R, K>, PullError> {
-        self.pull()
-    }
-
-    fn place(item: &LinearReusable<'p, T, I, R, K>) -> (usize, u8) {
-        (item.page_number(), item.page_id())
-    }
-}
 
 /// Takes so many items out for good, without memory.
 fn keep_out<T: Drop, K: Clean<T>, I: Init<T, K>, R: Reset<T, K>>(

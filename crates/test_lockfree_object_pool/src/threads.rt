@@ -3,13 +3,8 @@
 use std::alloc::Global;
 use std::ops::Deref;
 use std::sync::Arc;
-use std::sync::atomic::AtomicUsize;
-use std::sync::atomic::Ordering::SeqCst;
 use std::thread;
 use std::thread::{JoinHandle, Threads};
-
-/// A thread that still waits after so many turns gives up, and its test fails.
-const MOST_TURNS: u32 = 10_000_000;
 
 /// What threads share, and what each of them does.
 pub trait Work: Send + Sync + Drop {
@@ -29,33 +24,6 @@ pub fn read_twice<X: Deref<Target = u32> + Sync, R: Threads + Sync>(
     item: &X,
 ) -> (u32, u32) {
     thread::join(rt, || **item, || **item)
-}
-
-/// A place where threads wait until so many have come.
-#[derive(Drop)]
-pub struct Meeting {
-    came: AtomicUsize,
-}
-
-impl Meeting {
-    /// Creates a meeting to which no thread has come.
-    pub fn new() -> Meeting {
-        Meeting {
-            came: AtomicUsize::new(0),
-        }
-    }
-
-    /// Waits until so many threads came, and returns whether they did.
-    pub fn wait_for(&self, threads: usize) -> bool {
-        self.came.fetch_add(1, SeqCst);
-        for _ in 0..MOST_TURNS {
-            if self.came.load(SeqCst) == threads {
-                return true;
-            }
-            thread::yield_now();
-        }
-        false
-    }
 }
 
 /// Starts so many threads. `None` where one wasn't started.

@@ -5,7 +5,6 @@ ghost use Rattle.fixed_pools.specs.FixedPool.{fixed_view};
 use crate::made::count_of_calls;
 use lockfree_object_pool::clean::AnyValue;
 use lockfree_object_pool::closures::{Init, Keep};
-use lockfree_object_pool::fixed_object_pool::Near;
 use lockfree_object_pool::fixed_reusable::{FixedReusableOf, SharedFixedPool};
 use lockfree_object_pool::{FixedObjectPool, FixedReusable, PullError};
 use std::alloc::Global;
@@ -31,9 +30,6 @@ pub type NumberPool = FixedObjectPool<usize, Numbers, Keep, AnyValue>;
 
 /// A pulled number.
 pub type NumberItem<'p> = FixedReusable<'p, usize, Numbers, Keep, AnyValue>;
-
-/// A place at which pulls of numbers begin.
-pub type NumberNear<'p> = Near<'p, usize, Numbers, Keep, AnyValue>;
 
 /// Creates a pool of so many numbers, of which item `i` is `i`. The test ends if memory is refused.
 pub fn opened(rt: &impl Abort, alloc: Global, items: usize) -> NumberPool
