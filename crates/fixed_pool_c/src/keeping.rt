@@ -85,11 +85,12 @@ impl OpenCache {
         ensures { PullsFurther result self.old self.new place.new }
     {
         let page = self.way.page();
-        match self.pool.pull_apart(page) {
-            Ok((holding, ())) => {
+        match self.pool.pull_item(page) {
+            Ok(item) => {
                 let items = self.pool.items();
-                self.way.go_on(page, holding.number / PAGE_ITEMS, items);
-                place.hold(holding, self.tag);
+                self.way
+                    .go_on(page, item.holding.number / PAGE_ITEMS, items);
+                place.hold(item.holding, self.tag);
                 DONE
             }
             Err(note) => {

@@ -64,10 +64,10 @@ impl OpenHandle {
         if place.after != 0 {
             return HOLDS_ONE;
         }
-        match pool.pull_apart(page) {
-            Ok((holding, ())) => {
+        match pool.pull_item(page) {
+            Ok(item) => {
                 let _items = pool.items(); // a `usize`, so one more than an item's number is one
-                place.hold(holding, self.tag);
+                place.hold(item.holding, self.tag);
                 DONE
             }
             Err(note) => {

@@ -10,7 +10,7 @@ use Rattle.pool_parts.specs.PageRule.{User, IsSound, Loads, MissesAll, TakesOne}
 use Rattle.pool_parts.proofs.PageAnswers.{pulled, pulled_since, found_out, out_since, knows_out}
 use Rattle.fixed_pools.specs.FixedCount.{GoesOver}
 use Rattle.fixed_pools.specs.FixedPool.{IsBusy, PullsItem, returns_between, returns_since}
-use Rattle.fixed_pools.specs.declared.fixed_object_pool.items.PulledItem.{PulledItem}
+use Rattle.pool_parts.specs.declared.page.holding.PulledItem.{PulledItem}
 
 module _ {T : Type 0} where
   -- where the user of a call stands that has read its first word, and had known this before

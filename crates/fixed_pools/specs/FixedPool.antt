@@ -10,7 +10,7 @@ use Rattle.pool_parts.specs.declared.page.note.PageNote.{PageNote}
 use Rattle.pool_parts.specs.declared.page.user_view.UserView.{UserView}
 use Rattle.fixed_pools.specs.declared.fixed_object_pool.FixedObjectPool.{FixedObjectPool}
 use Rattle.fixed_pools.specs.declared.fixed_object_pool.items.FixedItems.{FixedItems}
-use Rattle.fixed_pools.specs.declared.fixed_object_pool.items.PulledItem.{PulledItem}
+use Rattle.pool_parts.specs.declared.page.holding.PulledItem.{PulledItem}
 
 -- what a pool with one table shows
 pub record FixedView (T R : Type 0) : Type 0 where

@@ -17,12 +17,12 @@ use pool_parts::PullError;
 use pool_parts::clean::{AnyValue, Clean};
 use pool_parts::closures::{Init, Reset};
 use pool_parts::made_or_reset::MadeOrReset;
+use pool_parts::page::inside::{Holding, PulledItem};
 use pool_parts::page::{PageNote, PullPass, Witness};
 use std::alloc::Global;
 use std::fmt::{self, Debug, Formatter, Write};
 use std::sync::Arc;
 
-mod apart;
 mod at;
 mod busy_seen;
 pub mod items;
@@ -68,12 +68,10 @@ pub type FixedPulled<'s, 'p, T, I, R, K = AnyValue> = Result<
 /// drop(item); // the value is 0 again, and in the pool
 /// ```
 pub struct FixedObjectPool<T, I: Init<T, K>, R: Reset<T, K>, K: Clean<T> = AnyValue> {
-    reset: R,
+    pub(crate) reset: R,
     pub(crate) items: FixedItems<T, MadeOrReset<I, R, K>>,
 }
 
-/// Not derived: the proof of a caller that drops it has one call here, and a derived drop has that
-/// of each field.
 impl<T: Drop, I: Init<T, K>, R: Reset<T, K>, K: Clean<T>> Drop for FixedObjectPool<T, I, R, K> {
     fn drop(self) {
         let FixedObjectPool { reset: _, items: _ } = self;
@@ -82,7 +80,7 @@ impl<T: Drop, I: Init<T, K>, R: Reset<T, K>, K: Clean<T>> Drop for FixedObjectPo
 
 impl<T: Drop, I: Init<T, K>, R: Reset<T, K>, K: Clean<T>> FixedObjectPool<T, I, R, K> {
     ghost use Rattle.fixed_pools.specs.FixedPool.{IsBusy, IsFullNote, Pulls, fixed_view, returns_since};
-    ghost use Rattle.pool_parts.specs.Page.{view_of, IsNoteOf, HasLearned};
+    ghost use Rattle.pool_parts.specs.Page.{view_of, held_item, IsGivenBack, IsNoteOf, HasLearned};
     ghost use Rattle.pool_parts.specs.Item.{IsFilled, new_user};
     ghost use Rattle.pool_parts.specs.Answers.{Refuses};
 
@@ -301,6 +299,41 @@ impl<T: Drop, I: Init<T, K>, R: Reset<T, K>, K: Clean<T>> FixedObjectPool<T, I, 
         match self.items.pull_onward(start, note) {
             Ok(pulled) => Ok(FixedOwnedReusable::new(self, pulled)),
             Err(note) => Err((self, note)),
+        }
+    }
+
+    /// Pulls a free item as `pull_near` does, and returns it without a borrow of the pool. Only
+    /// [`FixedObjectPool::give`] returns it to the pool. The calls for C stand on these two.
+    ///
+    /// # Errors
+    ///
+    /// The note of a user that found the pool full at one moment of this call (or that so many
+    /// returns came within it as `pull` says).
+    #[inline(always)]
+    pub fn pull_item(&self, page: usize) -> Result<PulledItem<T>, PoolNote<T>>
+        ensures pulled { IfOk result (λ item. Pulls K.meets I.answers R.leaves self.now
+            (returns_since (view_of item.holding.seat) + 1)
+            (new_user (fixed_view self.now).opening (view_of item.holding.seat).user)
+            (held_item item.holding item.value) (view_of item.holding.seat)) }
+        ensures full { IfErr result (λ note. IsFullNote (fixed_view self.now).identity
+            (new_user (fixed_view self.now).opening (view_of note.seat).user) note) }
+    {
+        let start = self.items.page_round(page);
+        self.items.pull_in_order(start, Some(Order::Hinted))
+    }
+
+    /// Resets the value of an item that was pulled without a borrow of the pool, and returns it.
+    /// The note knows the pool's history up to this return.
+    pub fn give(&self, holding: Holding<T>, value: T) -> PoolNote<T>
+        requires of_pool { holding.seat.table_id ≡ (fixed_view self.now).identity }
+        requires in_pool { holding.number < (fixed_view self.now).items }
+        ensures { IsGivenBack (R.leaves (fixed_view self.now).reset) (held_item holding value)
+            result }
+    {
+        let mut left = value;
+        self.reset.reset(&mut left);
+        PageNote {
+            seat: self.items.give(holding, left),
         }
     }
 }

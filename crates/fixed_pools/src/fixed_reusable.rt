@@ -4,12 +4,12 @@ ghost use Rattle.std.specs.Arc.{arc_value};
 ghost use Rattle.atomic_table.specs.Seated.{TableId};
 ghost use Rattle.pool_parts.specs.Page.{held_item, view_of};
 
-use crate::fixed_object_pool::items::PulledItem;
 use crate::fixed_object_pool::{FixedObjectPool, PoolNote};
 use pool_parts::clean::{AnyValue, Clean};
 use pool_parts::closures::{Init, Reset};
-use pool_parts::page::inside::Holding;
-use pool_parts::page::{PAGE_ITEMS, PageId, Witness};
+use pool_parts::page::inside::{Holding, PulledItem};
+use pool_parts::page::{PAGE_ITEMS, PageId, PageNote, Witness};
+use pool_parts::reusable::Reusable;
 use std::fmt::{self, Debug, Formatter, Write};
 use std::marker::Model;
 use std::ops::{Deref, DerefMut};
@@ -163,7 +163,7 @@ impl<T: Drop, P: SharedFixedPool<T>> FixedReusableOf<T, P> {
         ensures history { (view_of result.seat).operations ≡ self.old.item.history }
         ensures same { IsSame self.old self.new }
     {
-        self.pool.pool().witness(&mut self.holding)
+        self.holding.witness(&self.pool.pool().items.shared)
     }
 
     /// Ensures that this item and another that is held of the pool are two: their numbers differ.
@@ -175,8 +175,8 @@ impl<T: Drop, P: SharedFixedPool<T>> FixedReusableOf<T, P> {
         ensures same { IsSame self.old self.new }
         ensures same_other { IsSame other.old other.new }
     {
-        let pool = self.pool.pool();
-        pool.are_two(&mut self.holding, &mut other.holding);
+        let items = &self.pool.pool().items.shared;
+        items.are_two(&mut self.holding, &mut other.holding);
     }
 
     /// Resets the value and returns it, as the drop does. The note knows the pool's history up to
@@ -238,6 +238,61 @@ impl<T: Drop, P: SharedFixedPool<T>> DerefMut for FixedReusableOf<T, P> {
         ensures shows { result.now ≡ self.old.item.value }
     {
         &mut self.value
+    }
+}
+
+impl<T: Drop, P: SharedFixedPool<T>> Reusable<T> for FixedReusableOf<T, P> {
+    ghost use Rattle.fixed_pools.specs.FixedPool.{with_value as with_item_value};
+    ghost use Rattle.pool_parts.specs.Answers.{IsMadeOrReset};
+    ghost use Rattle.pool_parts.specs.Page.{IsReturned};
+
+    type Note = PoolNote<T>;
+
+    ghost value_of = { λ reusable. reusable.item.value };
+
+    ghost with_value = { with_item_value };
+
+    ghost keeps = { λ value.
+        P.Kept.meets value × IsMadeOrReset P.Init.answers P.Reset.leaves value };
+
+    ghost leaves = { λ reusable. P.Reset.leaves (P.shown reusable.pool).reset };
+
+    ghost is_returned = { λ reusable. IsReturned reusable.item };
+
+    #[inline(always)]
+    fn value(&self) -> &T {
+        &self.value
+    }
+
+    #[inline(always)]
+    fn value_mut(&mut self) -> &mut T {
+        &mut self.value
+    }
+
+    #[inline(always)]
+    fn try_reset(self) -> Result<FixedReusableOf<T, P>, PoolNote<T>> {
+        let FixedReusableOf {
+            pool,
+            holding,
+            mut value,
+        } = self;
+        pool.pool().reset.reset(&mut value);
+        Ok(FixedReusableOf {
+            pool,
+            holding,
+            value,
+        })
+    }
+
+    fn give_kept(self) -> PoolNote<T> {
+        let FixedReusableOf {
+            pool,
+            holding,
+            value,
+        } = self;
+        PageNote {
+            seat: pool.pool().items.give(holding, value),
+        }
     }
 }
 

@@ -9,7 +9,7 @@ use Rattle.pool_parts.specs.declared.pull_error.PullError.{PullError}
 use Rattle.pool_parts.specs.declared.pull_error.PullError.TheVariants as cause
 use Rattle.pool_parts.specs.Slot.{IsAllOut}
 use Rattle.fixed_pools.specs.FixedPool.{IsFullNote}
-use Rattle.fixed_pools.specs.declared.fixed_object_pool.items.PulledItem.{PulledItem}
+use Rattle.pool_parts.specs.declared.page.holding.PulledItem.{PulledItem}
 use Rattle.lazy_pools.specs.declared.lazy_object_pool.LazyObjectPool.{LazyObjectPool}
 use Rattle.lazy_pools.specs.declared.lazy_object_pool.lazy_refused.LazyRefused.{LazyRefused}
 use Rattle.lazy_pools.specs.declared.lazy_object_pool.lazy_refused.LazyRefused.TheVariants.{Busy, NotMade, Closed}

@@ -23,14 +23,14 @@ ghost use Rattle.std.specs.Arc.{arc_value};
 use crate::lazy_owned_reusable::LazyOwnedReusable;
 use crate::lazy_reusable::{LazyReusable, LazyReusableOf, SharedLazyPool};
 use fixed_pools::fixed_object_pool::PoolNote;
-use fixed_pools::fixed_object_pool::items::{FixedItems, PulledItem};
+use fixed_pools::fixed_object_pool::items::FixedItems;
 use fixed_pools::fixed_object_pool::order::Order;
 use kept_place::KeptPlace;
 use lazy_refused::{LazyRefused, NoPlace};
 use pool_parts::PullError;
 use pool_parts::clean::{AnyValue, Clean};
 use pool_parts::closures::{Init, Reset};
-use pool_parts::page::inside::Holding;
+use pool_parts::page::inside::{Holding, PulledItem};
 use pool_parts::page::{PageNote, PullPass, Witness};
 use std::alloc::Global;
 use std::fmt::{self, Debug, Formatter, Write};
@@ -39,7 +39,6 @@ use std::sync::atomic::AtomicUsize;
 use std::sync::atomic::Ordering::SeqCst;
 use waiters::Waiters;
 
-mod apart;
 mod closing;
 mod counts;
 pub mod kept_place;
@@ -80,7 +79,7 @@ pub type LazyPulled<'s, 'p, T, I, R, K = AnyValue> = Result<
 /// ```
 pub struct LazyObjectPool<T, I: Init<T, K>, R: Reset<T, K>, K: Clean<T> = AnyValue> {
     init: I,
-    reset: R,
+    pub(crate) reset: R,
     pub(crate) places: FixedItems<Option<T>, KeptPlace<I, R, K>>,
     /// How many items there are, in use or free.
     pub(crate) existing: AtomicUsize,
@@ -89,8 +88,6 @@ pub struct LazyObjectPool<T, I: Init<T, K>, R: Reset<T, K>, K: Clean<T> = AnyVal
     pub(crate) waiters: Waiters,
 }
 
-/// Not derived: the proof of a caller that drops it has one call here, and a derived drop has that
-/// of each field.
 impl<T: Drop, I: Init<T, K>, R: Reset<T, K>, K: Clean<T>> Drop for LazyObjectPool<T, I, R, K> {
     fn drop(self) {
         let LazyObjectPool {
@@ -371,7 +368,7 @@ impl<T: Drop, I: Init<T, K>, R: Reset<T, K>, K: Clean<T>> LazyObjectPool<T, I, R
     {
         let number = holding.number;
         let seat = self.places.give(holding, Some(value));
-        if self.waiters.tell() {
+        if self.waiters.wake_one() {
             self.clear_place(number);
         }
         PageNote { seat }
@@ -394,7 +391,7 @@ impl<T: Drop, I: Init<T, K>, R: Reset<T, K>, K: Clean<T>> LazyObjectPool<T, I, R
         ensures { IsReturned (held_item holding None) result }
     {
         let seat = self.places.give(holding, None);
-        self.waiters.tell();
+        self.waiters.wake_one();
         PageNote { seat }
     }
 }

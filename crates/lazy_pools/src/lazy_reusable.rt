@@ -9,6 +9,7 @@ use pool_parts::clean::{AnyValue, Clean};
 use pool_parts::closures::{Init, Reset};
 use pool_parts::page::inside::Holding;
 use pool_parts::page::{PAGE_ITEMS, PageId, Witness};
+use pool_parts::reusable::Reusable;
 use std::fmt::{self, Debug, Formatter, Write};
 use std::marker::Model;
 use std::ops::{Deref, DerefMut};
@@ -224,6 +225,65 @@ impl<T: Drop, P: SharedLazyPool<T>> DerefMut for LazyReusableOf<T, P> {
         ensures shows { result.now ≡ self.old.value }
     {
         &mut self.value
+    }
+}
+
+impl<T: Drop, P: SharedLazyPool<T>> Reusable<T> for LazyReusableOf<T, P> {
+    ghost use Rattle.lazy_pools.specs.LazyPool.{with_value as with_item_value};
+    ghost use Rattle.pool_parts.specs.Answers.{IsMadeOrReset};
+    ghost use Rattle.pool_parts.specs.Page.{IsReturned};
+
+    type Note = PoolNote<Option<T>>;
+
+    ghost value_of = { λ reusable. reusable.value };
+
+    ghost with_value = { with_item_value };
+
+    ghost keeps = { λ value.
+        P.Kept.meets value × IsMadeOrReset P.Init.answers P.Reset.leaves value };
+
+    ghost leaves = { λ reusable. P.Reset.leaves (P.shown reusable.pool).reset };
+
+    ghost rejects = { λ reusable. P.Reset.rejects (P.shown reusable.pool).reset };
+
+    ghost is_returned = { λ reusable. IsReturned reusable.item };
+
+    ghost is_emptied = { λ reusable. IsReturned (record reusable.item { value = None }) };
+
+    #[inline(always)]
+    fn value(&self) -> &T {
+        &self.value
+    }
+
+    #[inline(always)]
+    fn value_mut(&mut self) -> &mut T {
+        &mut self.value
+    }
+
+    #[inline(always)]
+    fn try_reset(self) -> Result<LazyReusableOf<T, P>, PoolNote<Option<T>>> {
+        let LazyReusableOf {
+            pool,
+            holding,
+            value,
+        } = self;
+        match pool.pool().reset.try_reset(value) {
+            Some(value) => Ok(LazyReusableOf {
+                pool,
+                holding,
+                value,
+            }),
+            None => Err(pool.pool().give_empty(holding)),
+        }
+    }
+
+    fn give_kept(self) -> PoolNote<Option<T>> {
+        let LazyReusableOf {
+            pool,
+            holding,
+            value,
+        } = self;
+        pool.pool().give_kept(holding, value)
     }
 }
 

@@ -59,6 +59,10 @@ module _ {T I R K : Type 0} where
     -- so was each value with which an item of the page was returned before
     pub each_returned : EachReturned (λ value. meets value × IsMadeOrReset answers leaves value) item.history
 
+-- a reusable with another value
+abbrev pub with_value : {P T K O : Type 0} → ChainItem P T K O → T → ChainItem P T K O
+with_value reusable value = record reusable { item = record reusable.item { value = value } }
+
 module _ (T I R K : RattleType) (init : Init.Ghosts I.Denot T.Denot K.Denot)
     (reset : Reset.Ghosts R.Denot T.Denot K.Denot) (clean : Clean.Ghosts K.Denot T.Denot) where
   -- what contracts see of a pulled value
@@ -70,10 +74,9 @@ module _ (T I R K : RattleType) (init : Init.Ghosts I.Denot T.Denot K.Denot)
   abbrev pub LendsLinearValue : MutBor Shown → MutBor T.Denot → Fml
   LendsLinearValue reusable loan =
       Lends (Borrowed.the_row (record { mir = named 1; lft = [] }) T I R K init reset clean) T reusable loan
-      (λ value. record reusable.now { item = record reusable.now.item { value = value } })
+      (with_value reusable.now)
 
   -- so it is of an owned linear reusable's value
   abbrev pub LendsLinearOwnedValue : MutBor Shown → MutBor T.Denot → Fml
   LendsLinearOwnedValue reusable loan =
-      Lends (Owned.the_row T I R K init reset clean) T reusable loan
-      (λ value. record reusable.now { item = record reusable.now.item { value = value } })
+      Lends (Owned.the_row T I R K init reset clean) T reusable loan (with_value reusable.now)

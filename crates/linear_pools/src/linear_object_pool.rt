@@ -20,10 +20,6 @@ use std::fmt::{self, Debug, Formatter, Write};
 use std::marker::PhantomData;
 use std::sync::Arc;
 
-mod apart;
-
-pub use apart::LinearApart;
-
 /// Why [`LinearObjectPool::try_pull`] took no item: the pages up to the pool's limit were found
 /// full, of which it has the evidence of the last one, or no further page could be made.
 ///
@@ -88,13 +84,11 @@ struct PageLimit {
 /// ```
 pub struct LinearObjectPool<T, I: Init<T, K>, R: Reset<T, K>, K: Clean<T> = AnyValue> {
     init: I,
-    reset: R,
+    pub(crate) reset: R,
     pub(crate) chain: Chain<T, MadeOrReset<I, R, K>, AnswerOf<I, K>>,
     limit: Option<PageLimit>,
 }
 
-/// Not derived: the proof of a caller that drops it has one call here, and a derived drop has that
-/// of each field.
 impl<T: Drop, I: Init<T, K>, R: Reset<T, K>, K: Clean<T>> Drop for LinearObjectPool<T, I, R, K> {
     fn drop(self) {
         let LinearObjectPool {
@@ -378,15 +372,6 @@ impl<T: Drop, I: Init<T, K>, R: Reset<T, K>, K: Clean<T>> LinearObjectPool<T, I,
     {
         let init = &self.init;
         self.chain.pull_further(seen, self.limit(), &|| init.make())
-    }
-
-    /// Leaves a value as it is kept.
-    pub fn reset(&self, value: &mut T)
-        ensures leaves { R.leaves (linear_view self.now).reset value.old value.new }
-        ensures meets { K.meets value.new }
-        ensures made_or_reset { IsMadeOrReset I.answers R.leaves value.new }
-    {
-        self.reset.reset(value);
     }
 }
 

@@ -9,7 +9,7 @@ use page_chain::linear_page::PageNumber;
 use pool_parts::clean::{AnyValue, Clean};
 use pool_parts::closures::{Init, Reset};
 use pool_parts::made_or_reset::MadeOrReset;
-use pool_parts::page::inside::Holding;
+use pool_parts::page::inside::{Holding, PulledItem};
 use pool_parts::page::{PageId, PageNote, PageSlot, Witness};
 use std::fmt::{self, Debug, Formatter, Write};
 use std::marker::Model;
@@ -80,7 +80,7 @@ impl<T: Drop, I: Init<T, K>, R: Reset<T, K>, K: Clean<T>> LinearOwnedReusable<T,
         ensures item { result.item ≡ slot.entry.item }
         ensures page { result.number ≡ number }
     {
-        let (_, holding, value) = slot.into_parts();
+        let PulledItem { holding, value } = slot.into_item();
         LinearOwnedReusable {
             pool,
             holding,
@@ -144,7 +144,7 @@ impl<T: Drop, I: Init<T, K>, R: Reset<T, K>, K: Clean<T>> LinearOwnedReusable<T,
             number,
             mut value,
         } = self;
-        pool.reset(&mut value);
+        pool.reset.reset(&mut value);
         pool.chain.give(number, holding, value)
     }
 

@@ -7,7 +7,8 @@ use page_chain::linear_page::PageNumber;
 use pool_parts::clean::{AnyValue, Clean};
 use pool_parts::closures::{Init, Reset};
 use pool_parts::made_or_reset::MadeOrReset;
-use pool_parts::page::{Page, PageId, PageNote, PageSlot, Returned, Witness};
+use pool_parts::page::{PageId, PageNote, PageSlot, Witness};
+use pool_parts::reusable::Reusable;
 use std::fmt::{self, Debug, Formatter, Write};
 use std::marker::Model;
 use std::ops::{Deref, DerefMut};
@@ -139,13 +140,8 @@ impl<'p, T: Drop, I: Init<T, K>, R: Reset<T, K>, K: Clean<T>> LinearReusable<'p,
             mut slot,
             number,
         } = self;
-        pool.reset(&mut slot.value);
-        let page_number = number.get();
-        let Returned { note, was_full } = Page::give_slot(slot);
-        if was_full {
-            pool.chain.no_longer_full(page_number);
-        }
-        note
+        pool.reset.reset(&mut slot.value);
+        pool.chain.give_slot(slot, number.number)
     }
 
     /// Returns the number of the item in its page.
@@ -180,6 +176,53 @@ impl<T: Drop, I: Init<T, K>, R: Reset<T, K>, K: Clean<T>> DerefMut
         ensures shows { result.now ≡ self.old.item.value }
     {
         &mut self.slot.value
+    }
+}
+
+impl<'p, T: Drop, I: Init<T, K>, R: Reset<T, K>, K: Clean<T>> Reusable<T>
+    for LinearReusable<'p, T, I, R, K> {
+    ghost use Rattle.linear_pools.specs.LinearPool.{linear_view, with_value as with_item_value};
+    ghost use Rattle.pool_parts.specs.Answers.{IsMadeOrReset};
+    ghost use Rattle.pool_parts.specs.Page.{IsReturned};
+
+    type Note = PageNote<T>;
+
+    ghost value_of = { λ reusable. reusable.item.value };
+
+    ghost with_value = { with_item_value };
+
+    ghost keeps = { λ value. K.meets value × IsMadeOrReset I.answers R.leaves value };
+
+    ghost leaves = { λ reusable. R.leaves (linear_view reusable.pool).reset };
+
+    ghost is_returned = { λ reusable. IsReturned reusable.item };
+
+    #[inline(always)]
+    fn value(&self) -> &T {
+        &self.slot.value
+    }
+
+    #[inline(always)]
+    fn value_mut(&mut self) -> &mut T {
+        &mut self.slot.value
+    }
+
+    #[inline(always)]
+    fn try_reset(self) -> Result<LinearReusable<'p, T, I, R, K>, PageNote<T>> {
+        let LinearReusable { pool, slot, number } = self;
+        let mut left = slot;
+        pool.reset.reset(&mut left.value);
+        Ok(LinearReusable {
+            pool,
+            slot: left,
+            number,
+        })
+    }
+
+    fn give_kept(self) -> PageNote<T> {
+        let LinearReusable { pool, slot, number } = self;
+        let number = number.number;
+        pool.chain.give_slot(slot, number)
     }
 }
 

@@ -1,7 +1,7 @@
 //! The parts of object pools.
 //!
 //! They are: the condition of a pool's values, their initializers and resets, types that define
-//! these for themselves, why a pull is refused, and pages of items that threads share without a
+//! these for themselves, why a pull is refused, what reusables share, and pages of items that threads share without a
 //! lock.
 //!
 //! No call waits for another thread.
@@ -13,5 +13,6 @@ pub mod made_or_reset;
 pub mod page;
 pub mod pull_error;
 pub mod recycling;
+pub mod reusable;
 
 pub use pull_error::PullError;

@@ -40,7 +40,7 @@ pub use word::{PAGE_ITEMS, PageId, has_bit, take_least, with_bit, without_bit};
 /// What the crates of the pools stand on besides: items in use, the items of a page or of a fixed
 /// pool, and what their users know. `lockfree_object_pool` doesn't export it.
 pub mod inside {
-    pub use super::holding::Holding;
+    pub use super::holding::{Holding, PulledItem};
     pub use super::items::{Items, TakenValue};
     pub use super::user_view::{UserSeat, UserView};
 }

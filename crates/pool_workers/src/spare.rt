@@ -1,39 +1,43 @@
 //! An item that a worker keeps.
 use crate::worker_place::WorkerPlace;
+use pool_parts::reusable::Reusable;
 use std::marker::Model;
 
 /// An item that a worker keeps: it is in use, and its value is as the pool keeps it. Its drop
 /// returns it to the pool.
 pub(crate) struct Spare<T: Drop, P: WorkerPlace<T>> {
-    pub(crate) held: P::Held,
-    pub(crate) value: T,
+    pub(crate) item: P::Item,
 }
 
 impl<T: Drop, P: WorkerPlace<T>> Model for Spare<T, P> {
-    ghost use Rattle.pool_workers.specs.Workers.{HeldValue};
+    ghost use Rattle.pool_workers.specs.Workers.{WasPulled};
 
-    ghost Value = { HeldValue P.Held T };
+    ghost Value = { P.Item };
 
-    ghost view = { λ spare. record { held = spare.held; value = spare.value } };
+    ghost view = { λ spare. spare.item };
 
-    ghost invariant = { λ spare. P.is_pulled spare.held × P.keeps spare.value };
+    ghost invariant = { λ spare.
+        WasPulled P.Item.Reusable.with_value P.is_pulled spare.item
+        × P.Item.Reusable.keeps (P.Item.Reusable.value_of spare.item) };
 }
 
 impl<T: Drop, P: WorkerPlace<T>> Spare<T, P> {
-    /// Splits it into what its holder has and its value, to be used again.
+    ghost use Rattle.pool_workers.specs.Workers.{WasPulled};
+
+    /// Returns the item, to be used again.
     #[inline(always)]
-    pub(crate) fn into_parts(self) -> (P::Held, T)
-        ensures pulled { P.is_pulled result.0 }
-        ensures keeps { P.keeps result.1 }
+    pub(crate) fn into_item(self) -> P::Item
+        ensures pulled { WasPulled P.Item.Reusable.with_value P.is_pulled result }
+        ensures keeps { P.Item.Reusable.keeps (P.Item.Reusable.value_of result) }
     {
-        let Spare { held, value } = self;
-        (held, value)
+        let Spare { item } = self;
+        item
     }
 }
 
 impl<T: Drop, P: WorkerPlace<T>> Drop for Spare<T, P> {
     fn drop(self) {
-        let Spare { held, value } = self;
-        P::give_back(held, value);
+        let Spare { item } = self;
+        item.give_kept();
     }
 }

@@ -66,6 +66,8 @@ impl<T: Drop, P: WorkerPlace<T>> Drop for Worker<T, P> {
 }
 
 impl<T: Drop, P: WorkerPlace<T>> Worker<T, P> {
+    ghost use Rattle.pool_workers.specs.Workers.{WasPulled};
+
     /// Creates a worker that pulls at this place: that of a fixed or a lazy pool, as their `near`
     /// returns it, or a borrow of a linear pool. It has room for one item, and keeps nothing yet.
     ///
@@ -126,22 +128,19 @@ impl<T: Drop, P: WorkerPlace<T>> Worker<T, P> {
     /// As of the pool's own pull, if nothing is kept.
     #[inline(always)]
     pub fn pull(&self) -> Result<WorkerReusable<'_, T, P>, PullError>
-        ensures pulled { IfOk result (λ item. P.is_pulled item.held) }
-        ensures keeps { IfOk result (λ item. P.keeps item.value) }
+        ensures pulled { IfOk result (WasPulled P.Item.Reusable.with_value P.is_pulled) }
+        ensures keeps { IfOk result
+            (λ item. P.Item.Reusable.keeps (P.Item.Reusable.value_of item)) }
         ensures refused { IfErr result (P.refuses self.now) }
     {
         if self.place.is_closed() {
             self.give_back_all();
         }
-        let (held, value) = match self.take() {
-            Some(spare) => spare.into_parts(),
+        let item = match self.take() {
+            Some(spare) => spare.into_item(),
             None => self.place.pull()?,
         };
-        Ok(WorkerReusable {
-            worker: self,
-            held,
-            value,
-        })
+        Ok(WorkerReusable { worker: self, item })
     }
 
     /// Takes the item that came back last, if one is kept.

@@ -4,6 +4,7 @@ ghost use Rattle.std.specs.Prelude.{◌≡◌};
 use crate::spare::Spare;
 use crate::worker::Worker;
 use crate::worker_place::WorkerPlace;
+use pool_parts::reusable::Reusable;
 use std::fmt::{self, Debug, Formatter, Write};
 use std::marker::Model;
 use std::ops::{Deref, DerefMut};
@@ -11,47 +12,49 @@ use std::ops::{Deref, DerefMut};
 /// A value that a worker pulled. Its drop resets it, and the worker keeps the item, or returns it
 /// to the pool if there is no room for it.
 ///
-/// In a clause it is what the worker has of the item, and the value.
+/// In a clause it is the item, as the pool's own pull returned it.
 ///
 /// # Examples
 ///
 /// ```rust
 /// let item = worker.pull()?;
-/// let place = (item.held().page_number(), item.held().page_id());
+/// let place = (item.item().page_number(), item.item().page_id());
 /// ```
 pub struct WorkerReusable<'w, T: Drop, P: WorkerPlace<T>> {
     pub(crate) worker: &'w Worker<T, P>,
-    pub(crate) held: P::Held,
-    pub(crate) value: T,
+    pub(crate) item: P::Item,
 }
 
 impl<'w, T: Drop, P: WorkerPlace<T>> Model for WorkerReusable<'w, T, P> {
-    ghost use Rattle.pool_workers.specs.Workers.{HeldValue};
+    ghost use Rattle.pool_workers.specs.Workers.{WasPulled};
 
-    ghost Value = { HeldValue P.Held T };
+    ghost Value = { P.Item };
 
-    ghost view = { λ reusable. record { held = reusable.held; value = reusable.value } };
+    ghost view = { λ reusable. reusable.item };
 
-    ghost invariant = { λ reusable. P.is_pulled reusable.held };
+    ghost invariant = { λ reusable. WasPulled P.Item.Reusable.with_value P.is_pulled reusable.item };
 }
 
 impl<T: Drop, P: WorkerPlace<T>> Deref for WorkerReusable<'_, T, P> {
     type Target = T;
 
-    ghost deref_gives = { λ reusable value. value ≡ reusable.value };
+    ghost deref_gives = { λ reusable value. value ≡ P.Item.Reusable.value_of reusable };
 
+    #[inline(always)]
     fn deref(&self) -> &T {
-        &self.value
+        self.item.value()
     }
 }
 
 impl<'w, T: Drop, P: WorkerPlace<T>> WorkerReusable<'w, T, P> {
-    /// Returns what the worker has of the item, apart from the value. It knows the item's number.
-    pub fn held(&self) -> &P::Held
-        ensures same { result.now ≡ self.now.held }
-        ensures pulled { P.is_pulled result.now }
+    ghost use Rattle.pool_workers.specs.Workers.{WasPulled};
+
+    /// Returns the item as the pool's own pull returned it. It knows its number.
+    pub fn item(&self) -> &P::Item
+        ensures same { result.now ≡ self.now }
+        ensures pulled { WasPulled P.Item.Reusable.with_value P.is_pulled result.now }
     {
-        &self.held
+        &self.item
     }
 }
 
@@ -59,35 +62,33 @@ impl<T: Drop, P: WorkerPlace<T>> DerefMut for WorkerReusable<'_, T, P> {
     ghost use Rattle.std.specs.Borrow.{sem};
     ghost use Rattle.pool_workers.specs.Lending.{LendsValue};
 
-    ghost deref_mut_gives = { λ reusable value. value ≡ reusable.value };
+    ghost deref_mut_gives = { λ reusable value. value ≡ P.Item.Reusable.value_of reusable };
 
+    #[inline(always)]
     fn deref_mut(&mut self) -> &mut T
         ensures* writes_back { sem 𝓛
-            (LendsValue T.row P.row P.Held.row P.Note.row P.WorkerPlace self.entry result) }
-        ensures shows { result.now ≡ self.old.value }
+            (LendsValue T.row P.row P.Item.row P.Item.Note.row P.WorkerPlace P.Item.Reusable self.entry
+            result) }
+        ensures shows { result.now ≡ P.Item.Reusable.value_of self.old }
     {
-        &mut self.value
+        self.item.value_mut()
     }
 }
 
 impl<T: Debug + Drop, P: WorkerPlace<T>> Debug for WorkerReusable<'_, T, P> {
-    ghost debug_output = { λ reusable. T.debug_output reusable.value };
+    ghost debug_output = { λ reusable. T.debug_output (P.Item.Reusable.value_of reusable) };
 
     fn fmt<W: Write>(&self, f: &mut Formatter<W>) -> fmt::Result {
-        Debug::fmt(&self.value, f)
+        Debug::fmt(self.item.value(), f)
     }
 }
 
 impl<T: Drop, P: WorkerPlace<T>> Drop for WorkerReusable<'_, T, P> {
     #[inline(always)]
     fn drop(self) {
-        let WorkerReusable {
-            worker,
-            held,
-            value,
-        } = self;
-        match P::reset(held, value) {
-            Ok((held, value)) => worker.keep(Spare { held, value }),
+        let WorkerReusable { worker, item } = self;
+        match item.try_reset() {
+            Ok(item) => worker.keep(Spare { item }),
             Err(_emptied) => {}
         }
     }

@@ -29,8 +29,6 @@ pub struct SpinLock<T> {
     lock: HistoryLock<T, (), NoLaw>,
 }
 
-/// Not derived: the proof of a caller that drops it has one call here, and a derived drop has that
-/// of each field.
 impl<T: Drop> Drop for SpinLock<T> {
     fn drop(self) {
         let SpinLock { lock: _ } = self;

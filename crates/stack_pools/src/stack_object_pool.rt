@@ -44,8 +44,6 @@ pub struct StackObjectPool<
     marker: PhantomData<(Mutex<T>, Mutex<K>)>,
 }
 
-/// Not derived: the proof of a caller that drops it has one call here, and a derived drop has that
-/// of each field.
 impl<T, I: Init<T, K>, R: Reset<T, K>, K: Clean<T>, F: FreeList<T, MadeOrReset<I, R, K>>> Drop
     for StackObjectPool<T, I, R, K, F> {
     fn drop(self) {

@@ -220,11 +220,11 @@ fn a_refused_owner_comes_back_with_its_note(rt: HostRuntime) {
 }
 
 #[test]
-fn two_items_that_are_pulled_apart_are_two(rt: HostRuntime) {
+fn two_items_that_are_pulled_near_a_page_are_two(rt: HostRuntime) {
     plays(
         &rt,
         33,
-        "two_apart 0; two_apart 1; pair; counts",
+        "two_near 0; two_near 1; pair; counts",
         "two 0 1; two 32 0; two 32 0; calls 33 resets 6 drops 0",
     );
 }
@@ -234,7 +234,7 @@ fn an_item_that_is_pulled_apart_goes_back_with_its_value(rt: HostRuntime) {
     plays(
         &rt,
         33,
-        "apart 1 7; apart_reset 1 8; near 1; pull*32; apart 1 9; return 32; apart 0 9; counts; \
+        "apart 1 7; reset_first 1 8; near 1; pull*32; apart 1 9; return 32; apart 0 9; counts; \
          pull",
         "apart 32 32; apart 32 7; pulled 32 8; pulled 0+ 0+; refused limit; returned; apart 31 31; \
          calls 33 resets 4 drops 0; pulled 31 9",

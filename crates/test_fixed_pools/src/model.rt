@@ -259,8 +259,8 @@ impl Player for FixedModel {
             "here" => self.pull_here(),
             "owner" => self.pull(first, Order::Hinted, true),
             "place" => self.place(),
-            "apart" | "apart_reset" => self.apart(first, second),
-            "two_apart" => self.two(first, Order::Hinted),
+            "apart" | "reset_first" => self.apart(first, second),
+            "two_near" => self.two(first, Order::Hinted),
             "pair" => self.two(self.hint, Order::Round),
             "items" => Said::of("items").and(self.values.len()),
             "counts" => Said::of("calls resets drops")
@@ -282,8 +282,8 @@ const PULLS: [&str; 6] = ["pull", "near", "here", "try", "owned", "owner"];
 const CALLS: [&str; 8] = [
     "place",
     "apart",
-    "apart_reset",
-    "two_apart",
+    "reset_first",
+    "two_near",
     "pair",
     "items",
     "look",

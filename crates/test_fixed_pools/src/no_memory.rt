@@ -6,6 +6,7 @@
 use crate::opened::opened;
 use crate::player::{FixedPlayer, Pool};
 use fixed_pools::page::{PageId, PullPass};
+use pool_parts::reusable::Reusable;
 use rows::row::first_difference;
 use rows::setting::Setting;
 use std::process::Abort;
@@ -19,8 +20,10 @@ fn pull_fixed(pool: &Pool) -> Option<(usize, usize, PageId)> {
     drop(pool.pull_near(1).ok()?);
     drop(pool.near().pull().ok()?);
     drop(pool.try_pull(&pass).ok()?);
-    let (holding, value) = pool.pull_apart(1).ok()?;
-    pool.give(holding, value);
+    let item = pool.pull_item(1).ok()?;
+    pool.give(item.holding, item.value);
+    let kept = pool.pull().ok()?.try_reset().ok()?;
+    kept.give_kept();
     let item = pool.pull().ok()?;
     Some((item.number(), item.page_number(), item.page_id()))
 }

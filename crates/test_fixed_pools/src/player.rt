@@ -8,6 +8,7 @@ ghost use Rattle.fixed_pools.specs.FixedPool.{fixed_view};
 use fixed_pools::fixed_object_pool::{Near, PoolNote};
 use fixed_pools::page::PullPass;
 use fixed_pools::{FixedObjectPool, FixedOwnedReusable, FixedReusable, PullError};
+use pool_parts::reusable::Reusable;
 use rows::row::{Command, Player};
 use rows::said::Said;
 use rows::setting::{Makes, Resets, Setting, refused, said_of_two};
@@ -153,43 +154,39 @@ fn by_owner_again(held: Owned, page: usize) -> Result<Owned, PullError> {
     Ok(item)
 }
 
-/// Pulls an item apart from the pool and returns it with this number, which the pool resets first,
-/// or by two calls. The item's number, and what its value was.
-fn apart(
-    pool: &Pool,
-    page: usize,
-    number: usize,
-    is_reset: bool,
-) -> Result<(usize, usize), PullError> {
-    let Ok((holding, mut value)) = pool.pull_apart(page) else {
+/// Pulls an item without a borrow of the pool, as the calls for C do, and returns it with this number.
+/// The item's number, and what its value was.
+fn apart(pool: &Pool, page: usize, number: usize) -> Result<(usize, usize), PullError> {
+    let Ok(mut item) = pool.pull_item(page) else {
         return Err(PullError::Limit);
     };
-    let seen = (holding.number, value.number);
-    value.number = number;
-    if is_reset {
-        pool.reset(&mut value);
-        pool.give_reset(holding, value);
-    } else {
-        pool.give(holding, value);
+    let seen = (item.holding.number, item.value.number);
+    item.value.number = number;
+    pool.give(item.holding, item.value);
+    Ok(seen)
+}
+
+/// Pulls an item near a page and returns it with this number, which is reset first and then returned
+/// as it is. The item's number, and what its value was.
+fn reset_first(pool: &Pool, page: usize, number: usize) -> Result<(usize, usize), PullError> {
+    let mut item = pool.pull_near(page)?;
+    let seen = (item.number(), item.number);
+    item.number = number;
+    if let Ok(left) = item.try_reset() {
+        left.give_kept();
     }
     Ok(seen)
 }
 
-/// The numbers of two items that are pulled apart, after which both go back.
-fn two_apart(pool: &Pool, page: usize) -> Result<(usize, usize), PullError>
+/// The numbers of two items that are pulled near a page, after which both go back.
+fn two_near(pool: &Pool, page: usize) -> Result<(usize, usize), PullError>
     ensures differ { IfOk result (λ numbers. numbers.0 ≢ numbers.1) }
 {
-    let Ok((mut one, value)) = pool.pull_apart(page) else {
-        return Err(PullError::Limit);
-    };
-    let Ok((mut other, others_value)) = pool.pull_apart(page) else {
-        pool.give(one, value);
-        return Err(PullError::Limit);
-    };
-    pool.are_two(&mut one, &mut other);
-    let numbers = (one.number, other.number);
-    pool.give(one, value);
-    pool.give(other, others_value);
+    let mut one = pool.pull_near(page)?;
+    let mut other = pool.pull_near(page)?;
+    one.differs_from(&mut other);
+    let numbers = (one.number(), other.number());
+    drop(one);
     Ok(numbers)
 }
 
@@ -367,9 +364,9 @@ impl<'p> Player for FixedPlayer<'p> {
                 self.near = pool.near();
                 Said::of("at page").and(self.near.page_number())
             }
-            "apart" => said_of_two("apart", apart(pool, first, second, false)),
-            "apart_reset" => said_of_two("apart", apart(pool, first, second, true)),
-            "two_apart" => said_of_two("two", two_apart(pool, first)),
+            "apart" => said_of_two("apart", apart(pool, first, second)),
+            "reset_first" => said_of_two("apart", reset_first(pool, first, second)),
+            "two_near" => said_of_two("two", two_near(pool, first)),
             "pair" => said_of_two("two", pair(pool)),
             "items" => Said::of("items").and(pool.items()),
             "often" => self.often(first),

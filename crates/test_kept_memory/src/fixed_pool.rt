@@ -88,8 +88,8 @@ fn returns(alloc: Global, turns: usize) -> Option<()> {
         let _borrowed = pool.pull().ok()?;
         let _near = pool.pull_near(turn).ok()?;
         let _owned = pool.pull_owned().ok()?;
-        let (holding, value) = pool.pull_apart(turn).ok()?;
-        pool.give(holding, value);
+        let item = pool.pull_item(turn).ok()?;
+        pool.give(item.holding, item.value);
         let worker = Worker::with_room(alloc, pool.near(), 8).ok()?;
         drop(worker.pull().ok()?);
     }

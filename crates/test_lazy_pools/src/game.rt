@@ -110,7 +110,7 @@ impl<'p, R: Wait + Clock> LazyGame<'p, R> {
     /// An item leaves by this word.
     pub fn leaves(&mut self, word: &str, held: Held) {
         match word {
-            "return" | "give_back" => {
+            "return" | "give_back" | "reset_first" => {
                 let rejects = self.player.book.rejects();
                 self.model.give_back(held.number, rejects);
             }
@@ -280,7 +280,9 @@ impl<'p, R: Wait + Clock> Game for LazyGame<'p, R> {
             numbers: [first, second, _],
         } = command;
         let fits = match word {
-            "return" | "give_back" | "discard" | "detach" => self.is_fair_leave(word, first, said),
+            "return" | "give_back" | "reset_first" | "discard" | "detach" => {
+                self.is_fair_leave(word, first, said)
+            }
             "then_close" | "then_return" | "then_discard" | "then_swap" => {
                 self.is_fair_event(word, command.numbers, said)
             }

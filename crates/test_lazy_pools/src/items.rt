@@ -3,6 +3,7 @@ use lazy_pools::lazy_object_pool::lazy_refused::{LazyRefused, PullWithError};
 use lazy_pools::page::PullPass;
 use lazy_pools::{LazyObjectPool, LazyOwnedReusable, LazyReusable, PullError};
 use pool_model::value::{Closures, Value};
+use pool_parts::reusable::Reusable;
 use std::mem;
 
 pub type Pool = LazyObjectPool<Value, Closures, Closures>;
@@ -39,6 +40,22 @@ impl<'p> Item<'p> {
         match self {
             Item::Borrowed(item) => drop(item.give_back()),
             Item::Owned(item) => drop(item.give_back()),
+        }
+    }
+
+    /// Resets the value, and returns it as it is if the reset keeps it.
+    pub fn reset_first(self) {
+        match self {
+            Item::Borrowed(item) => {
+                if let Ok(left) = item.try_reset() {
+                    left.give_kept();
+                }
+            }
+            Item::Owned(item) => {
+                if let Ok(left) = item.try_reset() {
+                    left.give_kept();
+                }
+            }
         }
     }
 

@@ -149,6 +149,7 @@ impl<'p, R: Wait + Clock> LazyGame<'p, R> {
             0 => "discard",
             1 => "detach",
             2 => "give_back",
+            3 => "reset_first",
             _ => "return",
         };
         self.plan.then(way, number, 0, 0);

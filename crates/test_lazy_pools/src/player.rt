@@ -3,7 +3,8 @@
 //! Each way to pull is a word: `pull`, `near`, `try`, `owned`, `wait`, `owned_wait`, `timed` and
 //! `owned_timed`, and by a closure of the call `with` and so on. Its answer is `pulled NUMBER SERIAL`:
 //! the item's number in the pool, and how many values were made before its value. `return 0`,
-//! `give_back 0`, `discard 0`, `detach 0` and `forget 0` are what item 0 leaves its holder by.
+//! `give_back 0`, `reset_first 0`, `discard 0`, `detach 0` and `forget 0` are what item 0 leaves its
+//! holder by.
 //!
 //! `clock STEP FAILS` sets the clock of the next timed pull that waits (see `watch`). What happens at
 //! look 2 of it, with 1,000 milliseconds between two looks, say `then_return 0 1000 2` and its like;
@@ -197,6 +198,7 @@ impl<'p, R: Wait + Clock> LazyPlayer<'p, R> {
         match word {
             "return" => drop(item),
             "give_back" => item.give_back(),
+            "reset_first" => item.reset_first(),
             "discard" => item.discard(),
             "detach" => item.detach(),
             _ => {
@@ -290,7 +292,9 @@ impl<'p, R: Wait + Clock> Player for LazyPlayer<'p, R> {
             "wait_with" | "owned_wait_with" | "timed_with" | "owned_timed_with" => {
                 self.wait_with(word)
             }
-            "return" | "give_back" | "discard" | "detach" | "forget" => self.leave(word, first),
+            "return" | "give_back" | "reset_first" | "discard" | "detach" | "forget" => {
+                self.leave(word, first)
+            }
             "then_close" | "then_fill" | "then_return" | "then_discard" | "then_swap" => {
                 self.expect(word, first, second, third)
             }

@@ -76,7 +76,7 @@ fn a_limit_of_one_page_refuses_the_33rd_pull_and_gives_number_7_once_it_returned
     plays(
         &rt,
         1,
-        "pull*32; pull; try; again; apart; pair; return 7; pull",
+        "pull*32; pull; try; again; reset_first; pair; return 7; pull",
         "pulled 0+ 0+; refused limit; refused limit; refused limit; refused limit; refused limit; \
          returned; pulled 7 7",
     );
@@ -158,12 +158,12 @@ fn holders_tell_what_they_know(rt: HostRuntime) {
 }
 
 #[test]
-fn an_item_that_is_pulled_apart_goes_back_with_its_value(rt: HostRuntime) {
+fn an_item_that_is_reset_first_goes_back_with_its_value(rt: HostRuntime) {
     plays(
         &rt,
         0,
-        "pull*40; apart 7; pull; zero; return 40; apart 8; pull; counts",
-        "pulled 0+ 0+; apart 40 40; pulled 40 7; set; returned; apart 40 0; pulled 40 0; \
+        "pull*40; reset_first 7; pull; zero; return 40; reset_first 8; pull; counts",
+        "pulled 0+ 0+; reset 40 40; pulled 40 7; set; returned; reset 40 0; pulled 40 0; \
          calls 64 resets 3 drops 0",
     );
 }

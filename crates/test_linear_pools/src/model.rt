@@ -146,13 +146,13 @@ impl LinearModel {
         self.hold(taken, false)
     }
 
-    /// An item that is pulled, written and returned.
-    fn apart(&mut self, value: usize) -> Said {
+    /// An item that is pulled, written, reset and returned.
+    fn reset_first(&mut self, value: usize) -> Said {
         let number = match self.take() {
             Ok(number) => number,
             Err(refusal) => return refusal,
         };
-        let said = Said::of("apart").and(number).and(self.value(number));
+        let said = Said::of("reset").and(number).and(self.value(number));
         self.set_value(number, value);
         self.give(number);
         said
@@ -236,7 +236,7 @@ impl Player for LinearModel {
             "pull" | "try" => self.pull(false),
             "again" => self.again(),
             "owned" => self.pull(true),
-            "apart" => self.apart(command.numbers[0]),
+            "reset_first" => self.reset_first(command.numbers[0]),
             "pair" => self.pair(),
             "limit" => self.limit(),
             "counts" => Said::of("calls resets drops")
@@ -257,7 +257,14 @@ const PULLS: [&str; 5] = ["pull", "pull", "try", "again", "owned"];
 
 /// Calls after which as many items are held as before.
 const CALLS: [&str; 8] = [
-    "apart", "pair", "apart", "pair", "limit", "look", "write", "tell",
+    "reset_first",
+    "pair",
+    "reset_first",
+    "pair",
+    "limit",
+    "look",
+    "write",
+    "tell",
 ];
 
 /// Calls by which a held item comes back.

@@ -5,6 +5,7 @@
 //! of its page, and that in the page) and its value.
 use linear_pools::page::PullPass;
 use linear_pools::{LinearObjectPool, LinearOwnedReusable, LinearReusable, PullError};
+use pool_parts::reusable::Reusable;
 use rows::row::{Command, Player};
 use rows::said::Said;
 use rows::setting::{Makes, Resets, Setting, refused, said_of_two};
@@ -107,14 +108,15 @@ fn tried_again(pool: &Pool) -> Result<Borrowed<'_>, PullError> {
     }
 }
 
-/// Pulls an item apart from the pool, writes to it, resets it and returns it. The item's number,
-/// and what its value was.
-fn apart(pool: &Pool, written: usize) -> Result<(usize, usize), PullError> {
-    let (page, holding, mut value) = pool.pull_apart()?;
-    let seen = (number_of(page.get(), holding.number as u8), value.number);
-    value.number = written;
-    pool.reset(&mut value);
-    pool.give_reset(page, holding, value);
+/// Pulls an item and returns it with this number, which is reset first and then returned as it is. The
+/// item's number, and what its value was.
+fn reset_first(pool: &Pool, written: usize) -> Result<(usize, usize), PullError> {
+    let mut item = pool.pull()?;
+    let seen = (number_of(item.page_number(), item.page_id()), item.number);
+    item.number = written;
+    if let Ok(left) = item.try_reset() {
+        left.give_kept();
+    }
     Ok(seen)
 }
 
@@ -268,7 +270,7 @@ impl<'p> Player for LinearPlayer<'p> {
             "try" => self.hold(borrowed(tried(pool))),
             "again" => self.hold(borrowed(tried_again(pool))),
             "owned" => self.hold(owned(pool.pull_owned())),
-            "apart" => said_of_two("apart", apart(pool, written)),
+            "reset_first" => said_of_two("reset", reset_first(pool, written)),
             "pair" => said_of_two("two", pair(pool)),
             "often" => self.often(written),
             "limit" => self.limit(),

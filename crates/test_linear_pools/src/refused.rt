@@ -136,8 +136,9 @@ fn turns_of_a_linear_pool_ask_for_no_memory(rt: HostRuntime) {
         return;
     }
     is_ready(&rt);
-    let commands = "return 0*96; owned*48; pull*48; give 0*96; try; again; apart; pair; tell 0";
-    let answers = "returned; pulled _ _; pulled _ _; returned; pulled 0 _; pulled 1 _; apart 2 _; \
+    let commands =
+        "return 0*96; owned*48; pull*48; give 0*96; try; again; reset_first; pair; tell 0";
+    let answers = "returned; pulled _ _; pulled _ _; returned; pulled 0 _; pulled 1 _; reset 2 _; \
                    two 2 3; told";
     assert_eq!(rt; first_difference(&mut player, commands, answers), None);
 }

@@ -59,7 +59,7 @@ fn number_of(pool: &Numbers) -> Result<usize, PullError>
 {
     let worker = Worker::new(pool.near());
     let item = worker.pull()?;
-    Ok(item.held().number())
+    Ok(item.item().number())
 }
 
 #[test]

@@ -40,7 +40,7 @@ struct WorkerGame<'w, P: WorkerPlace<Value>, S> {
     is_rising: bool,
 }
 
-impl<'w, P: WorkerPlace<Value>, S: Shared<P, P::Held>> WorkerGame<'w, P, S> {
+impl<'w, P: WorkerPlace<Value>, S: Shared<P, P::Item>> WorkerGame<'w, P, S> {
     /// Draws the next command, of which this is the number.
     fn draw(&mut self, dice: &mut Dice, turn: usize) -> Command {
         let (held, items) = (self.model.held(), self.setting.kind.items());
@@ -120,7 +120,7 @@ impl<'w, P: WorkerPlace<Value>, S: Shared<P, P::Held>> WorkerGame<'w, P, S> {
 }
 
 /// Creates the game with new workers of a new pool.
-fn game_of<'w, P: WorkerPlace<Value>, S: Shared<P, P::Held>>(
+fn game_of<'w, P: WorkerPlace<Value>, S: Shared<P, P::Item>>(
     rt: &(impl Abort + AllocGlobal),
     setting: Setting,
     pool: S,
@@ -142,7 +142,7 @@ fn game_of<'w, P: WorkerPlace<Value>, S: Shared<P, P::Held>>(
 }
 
 /// Plays a game with new workers of a pool. If each answer was fair, it looks at what is left.
-fn wrong_at<P: WorkerPlace<Value>, S: Shared<P, P::Held>>(
+fn wrong_at<P: WorkerPlace<Value>, S: Shared<P, P::Item>>(
     rt: &(impl Abort + AllocGlobal),
     setting: Setting,
     pool: S,

@@ -41,7 +41,7 @@ fn use_worker<P: WorkerPlace<Value>>(rt: &impl Abort, worker: Worker<Value, P>) 
     for _ in 0..3 {
         let first = worker.pull().expect(rt, "an item is free");
         let second = worker.pull().expect(rt, "another item is free");
-        let _held = first.held();
+        let _item = first.item();
         assert_equal(rt, first.serial == second.serial, false);
     }
 }

@@ -146,21 +146,20 @@ impl Workers {
             let is_same = said == Said::of("pulled").and(item.number).and(item.serial);
             return is_same && self.hold(worker, item);
         }
-        match self.taken(page.wrapping_mul(32), 32, said) {
-            Ok(Some(item)) => {
-                self.go_on(worker, item.number / 32);
-                said.words() == "pulled" && self.hold(worker, item)
-            }
+        let start = page.wrapping_mul(32);
+        if self.pool.refusal().is_none() && !self.pool.has_free(start, 32) {
+            self.go_on(worker);
+        }
+        match self.taken(start, 32, said) {
+            Ok(Some(item)) => said.words() == "pulled" && self.hold(worker, item),
             answer => answer.is_ok(),
         }
     }
 
-    /// If a worker's pull found an item of another page than that at which it began, the next one
+    /// If a worker's pull found a place of another page than that at which it began, the next one
     /// begins a page further.
-    fn go_on(&mut self, worker: usize, page: usize) {
-        if let Some(keeper) = self.keepers.get_mut(worker)
-            && keeper.page != page
-        {
+    fn go_on(&mut self, worker: usize) {
+        if let Some(keeper) = self.keepers.get_mut(worker) {
             let next = keeper.page.wrapping_add(1);
             keeper.page = next.checked_rem(self.pages).unwrap_or(0);
         }

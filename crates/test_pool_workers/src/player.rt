@@ -39,7 +39,7 @@ fn said_of(words: &'static str, seen: Result<Seen, PullError>) -> Said {
     }
 }
 
-impl<'w, P: WorkerPlace<Value>, S: Shared<P, P::Held>> WorkerPlayer<'w, P, S> {
+impl<'w, P: WorkerPlace<Value>, S: Shared<P, P::Item>> WorkerPlayer<'w, P, S> {
     /// Creates one who holds nothing.
     ///
     /// # Errors
@@ -91,7 +91,7 @@ impl<'w, P: WorkerPlace<Value>, S: Shared<P, P::Held>> WorkerPlayer<'w, P, S> {
 
     /// What is seen of an item.
     fn seen_of(item: &WorkerReusable<'w, Value, P>) -> Seen {
-        (S::number_of(item.held()), item.serial)
+        (S::number_of(item.item()), item.serial)
     }
 
     /// Pulls an item and drops it.

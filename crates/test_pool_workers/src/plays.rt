@@ -48,7 +48,7 @@ pub struct Hired<P: WorkerPlace<Value>> {
 /// # Errors
 ///
 /// `Memory`.
-pub fn workers_of<P: WorkerPlace<Value>, S: Shared<P, P::Held>>(
+pub fn workers_of<P: WorkerPlace<Value>, S: Shared<P, P::Item>>(
     alloc: Global,
     pool: S,
     rooms: &[Room],
@@ -92,7 +92,7 @@ fn gets<P: WorkerPlace<Value>>(
 
 /// Looks at a pool whose workers ended: no item is in use, and all come to one worker, unless the
 /// pool was closed.
-pub fn is_left<P: WorkerPlace<Value>, S: Shared<P, P::Held>>(
+pub fn is_left<P: WorkerPlace<Value>, S: Shared<P, P::Item>>(
     rt: &(impl Abort + AllocGlobal),
     pool: S,
     book: &Book,
@@ -108,7 +108,7 @@ pub fn is_left<P: WorkerPlace<Value>, S: Shared<P, P::Held>>(
 }
 
 /// Plays lines with workers that end then. Their end resets nothing.
-fn plays_lines<P: WorkerPlace<Value>, S: Shared<P, P::Held>>(
+fn plays_lines<P: WorkerPlace<Value>, S: Shared<P, P::Item>>(
     rt: &(impl Abort + AllocGlobal),
     pool: S,
     book: &Arc<Book>,
@@ -126,7 +126,7 @@ fn plays_lines<P: WorkerPlace<Value>, S: Shared<P, P::Held>>(
 }
 
 /// Plays rows on a pool, each with workers of its own.
-fn plays_at<P: WorkerPlace<Value>, S: Shared<P, P::Held>>(
+fn plays_at<P: WorkerPlace<Value>, S: Shared<P, P::Item>>(
     rt: &(impl Abort + AllocGlobal),
     pool: S,
     book: &Arc<Book>,

@@ -1,17 +1,14 @@
 //! The pools of these tests, and the places where their workers pull.
 ghost use Rattle.std.specs.Prelude.{◌≤◌};
 
-use fixed_pools::FixedObjectPool;
 use fixed_pools::near::Near as FixedNear;
-use lazy_pools::LazyObjectPool;
+use fixed_pools::{FixedObjectPool, FixedReusable};
 use lazy_pools::near::Near as LazyNear;
-use linear_pools::LinearObjectPool;
+use lazy_pools::{LazyObjectPool, LazyReusable};
+use linear_pools::{LinearObjectPool, LinearReusable};
 use pool_model::book::Book;
 use pool_model::value::{Closures, Value};
 use pool_parts::PullError;
-use pool_workers::fixed::FixedHeld;
-use pool_workers::lazy::LazyHeld;
-use pool_workers::linear::LinearHeld;
 use std::alloc::Global;
 use std::sync::Arc;
 
@@ -45,13 +42,14 @@ pub fn linear_of(alloc: Global, book: &Arc<Book>, pages: usize) -> Result<Linear
 /// The number of an item in its pool, and how many values were made before its value.
 pub type Seen = (usize, usize);
 
-/// A pool that workers and others use. `P` is where a worker pulls, and `H` what it has of an item.
-pub trait Shared<P, H>: Copy {
+/// A pool that workers and others use. `P` is where a worker pulls, and `Item` what
+/// the pool gives there.
+pub trait Shared<P, Item>: Copy {
     /// Returns a place for a worker, and the page at which its pulls begin.
     fn place(self) -> (P, usize);
 
     /// Returns the number of an item in its pool.
-    fn number_of(held: &H) -> usize;
+    fn number_of(item: &Item) -> usize;
 
     /// Another user pulls an item and returns it.
     ///
@@ -68,16 +66,18 @@ pub trait Shared<P, H>: Copy {
     fn close(self);
 }
 
-impl<'p> Shared<FixedNear<'p, Value, Closures, Closures>, FixedHeld<'p, Value, Closures, Closures>>
-    for &'p Fixed {
+impl<'p> Shared<
+    FixedNear<'p, Value, Closures, Closures>,
+    FixedReusable<'p, Value, Closures, Closures>,
+> for &'p Fixed {
     fn place(self) -> (FixedNear<'p, Value, Closures, Closures>, usize) {
         let place = self.near();
         let page = place.page_number();
         (place, page)
     }
 
-    fn number_of(held: &FixedHeld<'p, Value, Closures, Closures>) -> usize {
-        held.number()
+    fn number_of(item: &FixedReusable<'p, Value, Closures, Closures>) -> usize {
+        item.number()
     }
 
     fn visit(self) -> Result<Seen, PullError> {
@@ -92,16 +92,18 @@ impl<'p> Shared<FixedNear<'p, Value, Closures, Closures>, FixedHeld<'p, Value, C
     fn close(self) {}
 }
 
-impl<'p> Shared<LazyNear<'p, Value, Closures, Closures>, LazyHeld<'p, Value, Closures, Closures>>
-    for &'p Lazy {
+impl<'p> Shared<
+    LazyNear<'p, Value, Closures, Closures>,
+    LazyReusable<'p, Value, Closures, Closures>,
+> for &'p Lazy {
     fn place(self) -> (LazyNear<'p, Value, Closures, Closures>, usize) {
         let place = self.near();
         let page = place.page_number();
         (place, page)
     }
 
-    fn number_of(held: &LazyHeld<'p, Value, Closures, Closures>) -> usize {
-        held.number()
+    fn number_of(item: &LazyReusable<'p, Value, Closures, Closures>) -> usize {
+        item.number()
     }
 
     fn visit(self) -> Result<Seen, PullError> {
@@ -123,13 +125,13 @@ fn number_of(page: usize, id: u8) -> usize {
     page.wrapping_mul(32).wrapping_add(id as usize)
 }
 
-impl<'p> Shared<&'p Linear, LinearHeld<'p, Value, Closures, Closures>> for &'p Linear {
+impl<'p> Shared<&'p Linear, LinearReusable<'p, Value, Closures, Closures>> for &'p Linear {
     fn place(self) -> (&'p Linear, usize) {
         (self, 0)
     }
 
-    fn number_of(held: &LinearHeld<'p, Value, Closures, Closures>) -> usize {
-        number_of(held.page_number(), held.page_id())
+    fn number_of(item: &LinearReusable<'p, Value, Closures, Closures>) -> usize {
+        number_of(item.page_number(), item.page_id())
     }
 
     fn visit(self) -> Result<Seen, PullError> {

@@ -169,7 +169,7 @@ impl<'w, 'p, R> Gives<WorkerItem<'w, 'p>, R> for &'w FixedWorker<'p> {
     }
 
     fn number(item: &WorkerItem<'w, 'p>) -> usize {
-        item.held().number()
+        item.item().number()
     }
 }
 

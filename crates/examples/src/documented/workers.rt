@@ -27,14 +27,14 @@ fn pull_twice(
 ) -> Result<[usize; 4], PullError> {
     let worker = Worker::with_room(alloc, pool.near(), 8)?;
     let (first, second) = (worker.pull()?, worker.pull()?);
-    let before = (first.held().number(), second.held().number());
+    let before = (first.item().number(), second.item().number());
     drop((first, second)); // it keeps both
     let (last, other) = (worker.pull()?, worker.pull()?);
     Ok([
         before.0,
         before.1,
-        last.held().number(),
-        other.held().number(),
+        last.item().number(),
+        other.item().number(),
     ])
 }
 
@@ -43,7 +43,7 @@ fn numbers(alloc: Global) -> Result<(usize, u8), PullError> {
     let pool = LinearObjectPool::<u32, _, _>::new(alloc, Zero::new(0), Zero::new(0))?;
     let worker = Worker::new(&pool);
     let item = worker.pull()?;
-    let place = (item.held().page_number(), item.held().page_id());
+    let place = (item.item().page_number(), item.item().page_id());
     Ok(place)
 }
 

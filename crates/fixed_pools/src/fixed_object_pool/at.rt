@@ -1,9 +1,9 @@
 //! The pull of one item alone, by its place.
 ghost use Rattle.std.specs.Prelude.{◌<◌, IfSome};
 
-use super::items::{FixedItems, PulledItem};
+use super::items::FixedItems;
 use pool_parts::clean::Clean;
-use pool_parts::page::inside::Holding;
+use pool_parts::page::inside::{Holding, PulledItem};
 use pool_parts::page::{PAGE_ITEMS, PageId, has_bit};
 
 impl<T, K: Clean<T>> FixedItems<T, K> {

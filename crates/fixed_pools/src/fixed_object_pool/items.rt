@@ -10,7 +10,7 @@ use super::busy_seen::BusySeen;
 use super::order::Order;
 use pool_parts::PullError;
 use pool_parts::clean::Clean;
-use pool_parts::page::inside::{Holding, Items, TakenValue, UserSeat};
+use pool_parts::page::inside::{Holding, Items, PulledItem, TakenValue, UserSeat};
 use pool_parts::page::{PAGE_ITEMS, PageNote, PullPass};
 use std::alloc::{AllocError, Global};
 use std::sync::atomic::AtomicU64;
@@ -18,14 +18,6 @@ use std::sync::atomic::Ordering::SeqCst;
 
 /// How many words share a cache line.
 const WORDS_APART: usize = 8;
-
-/// An item that was pulled, with its value, before it is known how the pool is held. The value may
-/// be another than what lay in the item's place.
-#[derive(Drop)]
-pub struct PulledItem<T, V = T> {
-    pub holding: Holding<T>,
-    pub value: V,
-}
 
 /// Returns the word of a page of which the first `count` items are free.
 fn low_bits(count: usize) -> u64

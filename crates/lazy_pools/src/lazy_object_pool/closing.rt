@@ -5,9 +5,9 @@
 ghost use Rattle.std.specs.Prelude.{◌<◌, IfSome};
 
 use super::LazyObjectPool;
-use fixed_pools::fixed_object_pool::items::PulledItem;
 use pool_parts::clean::Clean;
 use pool_parts::closures::{Init, Reset};
+use pool_parts::page::inside::PulledItem;
 use pool_parts::page::{PAGE_ITEMS, PageId};
 
 impl<T: Drop, I: Init<T, K>, R: Reset<T, K>, K: Clean<T>> LazyObjectPool<T, I, R, K> {

@@ -4,11 +4,11 @@
 ghost use Rattle.std.specs.Prelude.{◌<◌, ◌≤◌, None, IfErr};
 
 use super::LazyObjectPool;
-use fixed_pools::fixed_object_pool::items::PulledItem;
 use pool_parts::PullError;
 use pool_parts::clean::Clean;
 use pool_parts::closures::{Init, Reset};
 use pool_parts::page::PAGE_ITEMS;
+use pool_parts::page::inside::PulledItem;
 use std::sync::atomic::Ordering::SeqCst;
 
 impl<T: Drop, I: Init<T, K>, R: Reset<T, K>, K: Clean<T>> LazyObjectPool<T, I, R, K> {

@@ -6,9 +6,9 @@ use super::LazyObjectPool;
 use super::lazy_refused::PullWithError;
 use crate::lazy_owned_reusable::LazyOwnedReusable;
 use crate::lazy_reusable::{LazyReusable, LazyReusableOf, SharedLazyPool};
-use fixed_pools::fixed_object_pool::items::PulledItem;
 use pool_parts::clean::Clean;
 use pool_parts::closures::{Init, Reset};
+use pool_parts::page::inside::PulledItem;
 use std::sync::{Arc, Wait};
 use std::time::{Clock, Duration};
 

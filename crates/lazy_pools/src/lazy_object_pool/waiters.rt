@@ -1,14 +1,14 @@
 //! Threads that wait until an item is returned, or the pool is closed: an event count of two words.
 //!
-//! A waiter counts itself, reads how many returns were told, tries once more, and sleeps only if no
-//! return was told since. A return sets the bit of its item, and then reads whether anybody waits.
-//! Each step is sequentially consistent. So if a waiter's try missed the item, the return finds the
-//! waiter counted, and the waiter finds the return told. While nobody waits, a return costs one
-//! load more, of a word that nobody writes.
+//! A waiter counts itself, reads how many returns were counted, tries once more, and sleeps only if
+//! none was counted since. A return sets the bit of its item, and then reads whether anybody waits;
+//! if so it is counted. Each step is sequentially consistent. So if a waiter's try missed the item,
+//! the return finds the waiter counted, and the waiter finds the return counted. While nobody
+//! waits, a return costs one load more, of a word that nobody writes.
 //!
 //! A waiter that gives up may have been woken in place of another, so it wakes one. Who closes the
-//! pool says so in the first word, tells a return, and wakes all. So a waiter that hasn't seen the
-//! pool closed finds the return told. A return finds a closed pool as it finds a waiter.
+//! pool says so in the first word, counts a return, and wakes all. So a waiter that hasn't seen the
+//! pool closed finds that return counted. A return finds a closed pool as it finds a waiter.
 //!
 //! No contract says any of this: `ci/waiting_model` explores these steps.
 use std::sync::Wait;
@@ -19,14 +19,14 @@ use std::time::Duration;
 /// The bit of `waiting` that says that the pool is closed. It is never cleared.
 const CLOSED: u64 = 1 << 63;
 
-/// How many threads wait for an item, and how many returns were told.
+/// How many threads wait for an item, and how many returns were counted while some waited.
 #[derive(Drop)]
 pub(crate) struct Waiters {
     /// How many threads wait, and `CLOSED`.
     waiting: AtomicU64,
     /// It may wrap. A sleep misses a return only if 2^32 others come between its look and its
     /// sleep.
-    told: AtomicU64,
+    returns: AtomicU64,
 }
 
 impl Waiters {
@@ -34,7 +34,7 @@ impl Waiters {
     pub(crate) const fn new() -> Waiters {
         Waiters {
             waiting: AtomicU64::new(0),
-            told: AtomicU64::new(0),
+            returns: AtomicU64::new(0),
         }
     }
 
@@ -52,11 +52,11 @@ impl Waiters {
     /// Says that the pool is closed, and wakes all that wait.
     pub(crate) fn close(&self) {
         self.waiting.fetch_or(CLOSED, SeqCst);
-        self.told.fetch_add(1, SeqCst);
-        self.told.wake_all();
+        self.returns.fetch_add(1, SeqCst);
+        self.returns.wake_all();
     }
 
-    /// Counts one more that waits. From now on each return tells.
+    /// Counts one more that waits. From now on each return is counted.
     pub(crate) fn enter(&self) {
         self.waiting.fetch_add(1, SeqCst);
     }
@@ -69,35 +69,35 @@ impl Waiters {
     /// Counts one less, which has no item, and wakes another.
     pub(crate) fn give_up(&self) {
         self.leave();
-        self.tell();
+        self.wake_one();
     }
 
-    /// Returns the number of returns told, which a waiter reads before its try and hands to its
+    /// Returns the number of returns counted, which a waiter reads before its try and hands to its
     /// sleep.
     pub(crate) fn seen(&self) -> u32 {
-        (self.told.load(SeqCst) & 0xffff_ffff) as u32
+        (self.returns.load(SeqCst) & 0xffff_ffff) as u32
     }
 
-    /// Sleeps until a return is told, unless one was since `seen`. It may also end for no reason.
+    /// Sleeps until a return is counted, unless one was since `seen`. It may also end for no reason.
     pub(crate) fn sleep<W: Wait>(&self, rt: &W, seen: u32) {
-        self.told.park(rt, seen);
+        self.returns.park(rt, seen);
     }
 
-    /// Sleeps until a return is told, for `time` at most, unless one was since `seen`.
+    /// Sleeps until a return is counted, for `time` at most, unless one was since `seen`.
     pub(crate) fn sleep_for<W: Wait>(&self, rt: &W, seen: u32, time: Duration) {
-        self.told.park_timeout(rt, seen, time);
+        self.returns.park_timeout(rt, seen, time);
     }
 
     /// Wakes one that waits, after the bit of an item was set. Returns whether the pool is closed.
     #[inline(always)]
-    pub(crate) fn tell(&self) -> bool {
-        self.waiting.load(SeqCst) != 0 && self.wake()
+    pub(crate) fn wake_one(&self) -> bool {
+        self.waiting.load(SeqCst) != 0 && self.count_and_wake()
     }
 
     #[cold]
-    fn wake(&self) -> bool {
-        self.told.fetch_add(1, SeqCst);
-        self.told.wake_one();
+    fn count_and_wake(&self) -> bool {
+        self.returns.fetch_add(1, SeqCst);
+        self.returns.wake_one();
         self.is_closed()
     }
 }

@@ -10,10 +10,10 @@ use super::lazy_refused::NoPlace;
 use crate::lazy_owned_reusable::LazyOwnedReusable;
 use crate::lazy_reusable::LazyReusable;
 use fixed_pools::fixed_object_pool::PoolNote;
-use fixed_pools::fixed_object_pool::items::PulledItem;
 use pool_parts::PullError;
 use pool_parts::clean::Clean;
 use pool_parts::closures::{Init, Reset};
+use pool_parts::page::inside::PulledItem;
 use std::sync::{Arc, Wait};
 use std::time::{Clock, Duration, Instant};
 

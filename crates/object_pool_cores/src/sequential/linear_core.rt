@@ -32,8 +32,6 @@ pub struct LinearCore<T, I: Init<T, K>, R: Reset<T, K>, K: Clean<T>> {
     items: NumberedItems<T, K>,
 }
 
-/// Not derived: the proof of a caller that drops it has one call here, and a derived drop has that
-/// of each field.
 impl<T: Drop, I: Init<T, K>, R: Reset<T, K>, K: Clean<T>> Drop for LinearCore<T, I, R, K> {
     fn drop(self) {
         let LinearCore {

@@ -29,8 +29,6 @@ pub struct Player<T, P: SequentialPool<T>> {
     held: HeldItems<T>,
 }
 
-/// Not derived: the proof of a caller that drops it has one call here, and a derived drop has that
-/// of each field.
 impl<T: Drop, P: SequentialPool<T> + Drop> Drop for Player<T, P> {
     fn drop(self) {
         let Player { pool: _, held: _ } = self;

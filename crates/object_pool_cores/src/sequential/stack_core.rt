@@ -28,8 +28,6 @@ pub struct StackCore<T: Drop, I: Init<T, K>, R: Reset<T, K>, K: Clean<T>> {
     kept: Stack<T, K>,
 }
 
-/// Not derived: the proof of a caller that drops it has one call here, and a derived drop has that
-/// of each field.
 impl<T: Drop, I: Init<T, K>, R: Reset<T, K>, K: Clean<T>> Drop for StackCore<T, I, R, K> {
     fn drop(self) {
         let StackCore {

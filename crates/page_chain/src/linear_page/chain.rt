@@ -29,7 +29,7 @@ use super::walk::{KnownFull, WalkEnd, WalkRefusal};
 use pool_parts::PullError;
 use pool_parts::clean::{AnyValue, Clean};
 use pool_parts::page::inside::Holding;
-use pool_parts::page::{Allocated, FullSeen, Page, PageNote, PullPass, Returned};
+use pool_parts::page::{Allocated, FullSeen, Page, PageNote, PageSlot, PullPass, Returned};
 use std::alloc::Global;
 
 /// A chain of pages: the first one, and the links to the others.
@@ -47,8 +47,6 @@ pub struct Chain<T, K: Clean<T>, O: Clean<T> = AnyValue> {
     directory: Directory<T, K, O>,
 }
 
-/// Not derived: the proof of a caller that drops it has one call here, and a derived drop has that
-/// of each field.
 impl<T: Drop, K: Clean<T>, O: Clean<T>> Drop for Chain<T, K, O> {
     fn drop(self) {
         let Chain {
@@ -203,11 +201,26 @@ impl<T: Drop, K: Clean<T>, O: Clean<T>> Chain<T, K, O> {
         }
     }
 
+    /// Returns an item to its page, which has this number, with its value. If the page was full, it
+    /// sets the page's hint. The note knows the page's history up to the return.
+    #[inline(always)]
+    pub fn give_slot(&self, slot: PageSlot<'_, T, K>, number: usize) -> PageNote<T>
+        requires { K.meets slot.item.value }
+        ensures returned { IsReturned slot.entry.item result }
+        ensures each_returned { EachReturned K.meets (view_of result.seat).operations }
+    {
+        let Returned { note, was_full } = Page::give_slot(slot);
+        if was_full {
+            self.no_longer_full(number);
+        }
+        note
+    }
+
     /// Sets the hint of a page that has a free item now and may have been full before.
     ///
     /// It isn't inlined, so that a drop is short enough to be.
     #[inline(never)]
-    pub fn no_longer_full(&self, number: usize) {
+    fn no_longer_full(&self, number: usize) {
         if number > 0 {
             self.directory.set_hint(number);
         }

@@ -53,8 +53,6 @@ pub(super) struct KnownFull<'p, T, K: Clean<T>, O: Clean<T>> {
     pub(super) seen: FullSeen<'p, T>,
 }
 
-/// Not derived: the proof of a caller that drops it has one call here, and a derived drop has that
-/// of each field there.
 impl<T, K: Clean<T>, O: Clean<T>> Drop for KnownFull<'_, T, K, O> {
     fn drop(self) {
         let KnownFull {

@@ -18,6 +18,14 @@ pub struct Holding<T> {
     ghost carries: { seat.me.1 ≡ (number, None) ∷ [] } by { same_carrying T.code _ _ },
 }
 
+/// An item that was pulled, with its value, before it is known how the pool is held. The value may
+/// be another than what lay in the item's place.
+#[derive(Drop)]
+pub struct PulledItem<T, V = T> {
+    pub holding: Holding<T>,
+    pub value: V,
+}
+
 impl<T> Holding<T> {
     ghost use Rattle.pool_parts.specs.Page.{view_of};
     ghost use Rattle.pool_parts.specs.PageItems.{items_view};

@@ -31,8 +31,6 @@ pub struct Page<T, K: Clean<T>> {
     ghost counts_nothing: { (items_view items).raise ≡ 0 },
 }
 
-/// Not derived: the proof of a caller that drops it has one call here, and a derived drop has that
-/// of each field.
 impl<T: Drop, K: Clean<T>> Drop for Page<T, K> {
     fn drop(self) {
         let Page { items: _ } = self;
@@ -267,8 +265,16 @@ impl<T, K: Clean<T>> Page<T, K> {
         ensures returned { IsReturned slot.entry.item result.note }
         ensures each_returned { EachReturned K.meets (view_of result.note.seat).operations }
     {
-        let (page, holding, value) = slot.into_parts();
-        page.give(holding, value)
+        let PageSlot {
+            page,
+            holding,
+            value,
+        } = slot;
+        let (seat, was_full) = page.items.give(holding, value, 0);
+        Returned {
+            note: PageNote { seat },
+            was_full,
+        }
     }
 
     /// Returns an item to this page by what its holder has, with a value.

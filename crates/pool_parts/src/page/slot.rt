@@ -4,7 +4,7 @@ ghost use Rattle.std.specs.Arc.{arc_value};
 ghost use Rattle.pool_parts.specs.Page.{page_identity};
 ghost use Rattle.pool_parts.specs.declared.page.word.TheConstants.{PAGE_ITEMS};
 
-use super::holding::Holding;
+use super::holding::{Holding, PulledItem};
 use super::note::Witness;
 use super::owned_slot::OwnedSlot;
 use super::shared_page::Page;
@@ -117,18 +117,17 @@ impl<'s, T, K: Clean<T>> PageSlot<'s, T, K> {
         self.page.are_two(&mut self.holding, &mut other.holding);
     }
 
-    /// Splits the slot into its page, what its holder has, and its value.
-    pub fn into_parts(self) -> (&'s Page<T, K>, Holding<T>, T)
-        ensures item { held_item result.1 result.2 ≡ self.entry.item }
-        ensures of_page { result.1.seat.table_id ≡ page_identity result.0.now }
-        ensures in_page { result.1.number < PAGE_ITEMS }
+    /// Returns the item without the borrow of its page.
+    pub fn into_item(self) -> PulledItem<T>
+        ensures item { held_item result.holding result.value ≡ self.entry.item }
+        ensures in_page { result.holding.number < PAGE_ITEMS }
     {
         let PageSlot {
-            page,
+            page: _,
             holding,
             value,
         } = self;
-        (page, holding, value)
+        PulledItem { holding, value }
     }
 
     /// Returns the same item with an owner of the page in place of the borrow.

@@ -38,8 +38,6 @@ pub struct World<T, R: Reset<T, AnyValue>> {
     reset: R,
 }
 
-/// Not derived: the proof of a caller that drops it has one call here, and a derived drop has that
-/// of each field.
 impl<T: Drop, R: Reset<T, AnyValue>> Drop for World<T, R> {
     fn drop(self) {
         let World {

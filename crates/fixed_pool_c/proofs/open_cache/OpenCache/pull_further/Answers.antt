@@ -10,7 +10,7 @@ returns-in-Ok c = record {
     refl,
     c.hold.ensures.tag,
     subst (PullsPlace c.hold.new.self) c.deref.ensures record {
-      holding = c.in-Ok.holding;
+      holding = c.in-Ok.item.holding;
       holds = c.hold.ensures.held;
       pulled = c.in-Ok.ensures.pulled.pulled;
       number = c.hold.ensures.number;

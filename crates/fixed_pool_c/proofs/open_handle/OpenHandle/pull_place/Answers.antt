@@ -22,7 +22,7 @@ returns-in-Ok c =
         refl,
         owner.1,
         subst (PullsPlace c.hold.new.self) (c.deref.ensures ∙ owner.2) record {
-          holding = c.in-Ok.holding;
+          holding = c.in-Ok.item.holding;
           holds = c.hold.ensures.held;
           pulled = c.in-Ok.ensures.pulled.pulled;
           number = c.hold.ensures.number;

@@ -4,5 +4,5 @@ pub returns-clause-given : goal.returns-clause-given
 returns-clause-given g c = rw (← c.self.view_is) (rw (← c.slot.view_is) record {
   left = c.reset.new.value;
   by_reset = c.reset.ensures.leaves;
-  returned = c.give_slot-note.ensures.returned;
+  returned = c.give_slot.ensures.returned;
 })
