@@ -79,7 +79,7 @@ module _ {T E : Type 0} (leaves : List E → T → Type 0) where
         one_holder = λ j k v w at held _ _. absurd (none j v at held);
         knows = λ j v at. (
           ([], ap (λ (v : Visitor E). v.history) (alone j v at)),
-          ([], ap (λ (v : Visitor E). v.told) (alone j v at)),
+          ([], ap (λ (v : Visitor E). v.merged) (alone j v at)),
         );
         holder_knows = λ j v at held. absurd (none j v at held);
       }
@@ -93,7 +93,7 @@ module _ {T E : Type 0} (leaves : List E → T → Type 0) where
 
     -- somebody finds the lock free, and takes it
     takes_lock : (views : List (Visitor E)) (id : ℕ) → slice_index s.words 0 ≡ 0
-        → OldOrNew s.views views id (record { holds = true; history = lock.history; told = [] })
+        → OldOrNew s.views views id (record { holds = true; history = lock.history; merged = [] })
         → IsLocked leaves record { words = slice_set s.words 0 1; homes = slice_set s.homes 0 maybe.none; views = views }
     takes_lock views id free each = record {
       one_word = length-set s.words 0 1 ∙ lock.one_word;
@@ -114,7 +114,7 @@ module _ {T E : Type 0} (leaves : List E → T → Type 0) where
         | inl old ↦ lock.knows j v old
         | inr one ↦ (
           ([], sym (ap (λ (v : Visitor E). v.history) one.1)),
-          none_begins lock.history v.told (ap (λ (v : Visitor E). v.told) one.1),
+          none_begins lock.history v.merged (ap (λ (v : Visitor E). v.merged) one.1),
         )
       ];
       holder_knows = λ j v at held. elim (each j v at) [
@@ -125,10 +125,10 @@ module _ {T E : Type 0} (leaves : List E → T → Type 0) where
 
     -- somebody finds the lock taken, and knows no more than it did
     finds_taken : (views : List (Visitor E)) (id : ℕ) (new : Visitor E) → slice_index s.words 0 ≡ 1
-        → new.holds ≡ false → IsPrefixOf new.history lock.history → IsPrefixOf new.told lock.history
+        → new.holds ≡ false → IsPrefixOf new.history lock.history → IsPrefixOf new.merged lock.history
         → OldOrNew s.views views id new
         → IsLocked leaves record { words = slice_set s.words 0 1; homes = s.homes; views = views }
-    finds_taken views id new taken passing begins told each =
+    finds_taken views id new taken passing begins merged each =
         let old_holder : (j : ℕ) (v : Visitor E) → get_elem? views j ≡ some v → v.holds ≡ true
         → get_elem? s.views j ≡ some v = λ j v at held. elim (each j v at) [
           | inl old ↦ old
@@ -150,7 +150,7 @@ module _ {T E : Type 0} (leaves : List E → T → Type 0) where
             | inl old ↦ lock.knows j v old
             | inr one ↦ (
               subst (λ l. IsPrefixOf l lock.history) (sym (ap (λ (v : Visitor E). v.history) one.1)) begins,
-              subst (λ l. IsPrefixOf l lock.history) (sym (ap (λ (v : Visitor E). v.told) one.1)) told,
+              subst (λ l. IsPrefixOf l lock.history) (sym (ap (λ (v : Visitor E). v.merged) one.1)) merged,
             )
           ];
           holder_knows = λ j v at held. lock.holder_knows j v (old_holder j v at held) held;
@@ -159,13 +159,13 @@ module _ {T E : Type 0} (leaves : List E → T → Type 0) where
     -- the holder brings the value home, by one operation more
     brings_home : (id : ℕ) (holder new : Visitor E) (value : T) (operation : E)
         → get_elem? s.views id ≡ some holder → holder.holds ≡ true → leaves (operation ∷ lock.history) value
-        → new.holds ≡ false → new.history ≡ operation ∷ lock.history → new.told ≡ []
+        → new.holds ≡ false → new.history ≡ operation ∷ lock.history → new.merged ≡ []
         → IsLocked leaves record {
           words = slice_set s.words 0 0;
           homes = slice_set s.homes 0 (some (Some value));
           views = slice_set s.views id new;
         }
-    brings_home id holder new value operation here holds left passing all untold =
+    brings_home id holder new value operation here holds left passing all unmerged =
         let none_left : (j : ℕ) (v : Visitor E) → get_elem? (slice_set s.views id new) j ≡ some v → v.holds ≡ true → ⊥ =
         λ j v at held. elim (at_set s.views id j new v at) [
           | inl one ↦
@@ -185,11 +185,11 @@ module _ {T E : Type 0} (leaves : List E → T → Type 0) where
           knows = λ j v at. elim (at_set s.views id j new v at) [
             | inl one ↦ (
               ([], sym all ∙ ap (λ (v : Visitor E). v.history) one.1),
-              none_begins (operation ∷ lock.history) v.told (sym (ap (λ (v : Visitor E). v.told) one.1) ∙ untold),
+              none_begins (operation ∷ lock.history) v.merged (sym (ap (λ (v : Visitor E). v.merged) one.1) ∙ unmerged),
             )
             | inr other ↦
                 let old = lock.knows j v other.1 in
-                (longer operation v.history lock.history old.0, longer operation v.told lock.history old.1)
+                (longer operation v.history lock.history old.0, longer operation v.merged lock.history old.1)
           ];
           holder_knows = λ j v at held. absurd (none_left j v at held);
         }
@@ -198,7 +198,7 @@ module _ {T E : Type 0} (leaves : List E → T → Type 0) where
     know_more : (views : List (Visitor E))
         → ((j : ℕ) (v : Visitor E) → get_elem? views j ≡ some v
         → ((v.holds ≡ true → (was : Visitor E) × (get_elem? s.views j ≡ some was) × (was.holds ≡ true) × (v.history ≡ was.history))
-        × IsPrefixOf v.history lock.history × IsPrefixOf v.told lock.history))
+        × IsPrefixOf v.history lock.history × IsPrefixOf v.merged lock.history))
         → IsLocked leaves record { words = s.words; homes = s.homes; views = views }
     know_more views each = record {
       one_word = lock.one_word;
@@ -239,7 +239,7 @@ module _ {T E : Type 0} (leaves : List E → T → Type 0) where
           | inr le ↦
               let free : slice_index s.words 0 ≡ 0 = omega arith in
               let home = lock.home_if_free free in
-              let holder : Visitor E = record { holds = true; history = lock.history; told = [] } in (
+              let holder : Visitor E = record { holds = true; history = lock.history; merged = [] } in (
                 holder,
                 takes 0 (Some home.0),
                 home.1,
@@ -274,7 +274,7 @@ module _ {T E : Type 0} (leaves : List E → T → Type 0) where
           | inr le ↦
               let free : slice_index s.words 0 ≡ 0 = omega arith in
               let home = lock.home_if_free free in
-              let holder : Visitor E = record { holds = true; history = lock.history; told = [] } in (
+              let holder : Visitor E = record { holds = true; history = lock.history; merged = [] } in (
                 holder,
                 takes 0 (Some home.0),
                 home.1,
@@ -296,7 +296,7 @@ module _ {T E : Type 0} (leaves : List E → T → Type 0) where
     subst (λ c. Allows (IsLocked leaves) slots id (me.0, c) 0 (λ _. 0) (λ _. Frees adds (me.0, c))) (sym carries) (λ s lock _ here _.
         let all : me.0.history ≡ lock.history = lock.holder_knows id me.0 here held in
         let operation = adds me.0.history value in
-        let new : Visitor E = record { holds = false; history = operation ∷ me.0.history; told = [] } in (
+        let new : Visitor E = record { holds = false; history = operation ∷ me.0.history; merged = [] } in (
           new,
           gives,
           tt,
@@ -304,26 +304,26 @@ module _ {T E : Type 0} (leaves : List E → T → Type 0) where
               (subst (λ l. leaves (operation ∷ l) value) all left) refl (ap (λ l. operation ∷ l) all) refl,
           λ other is.
               let same : value ≡ other = ap (carried_by value) is in
-              ap (λ v. (record { holds = false; history = adds me.0.history v ∷ me.0.history; told = [] }, [])) same,
+              ap (λ v. (record { holds = false; history = adds me.0.history v ∷ me.0.history; merged = [] }, [])) same,
         )),
   )
 
-  -- a visitor tells another what it knows
-  pub tells : (id other : ℕ) (known told : Visitor E) → told.holds ≡ false
-      → Joins (IsLocked leaves) id known other told (record known { told = told.history }) newcomer
-  tells id other known told passing s lock here differ there =
-      let both : Visitor E = record known { told = told.history } in
+  -- a visitor shares what it knows with another
+  pub merges : (id other : ℕ) (known merged : Visitor E) → merged.holds ≡ false
+      → Joins (IsLocked leaves) id known other merged (record known { merged = merged.history }) newcomer
+  merges id other known merged passing s lock here differ there =
+      let both : Visitor E = record known { merged = merged.history } in
       let mine = lock.knows id known here in
-      let theirs : IsPrefixOf told.history lock.history = elim (at_set s.views id other both told there) [
+      let theirs : IsPrefixOf merged.history lock.history = elim (at_set s.views id other both merged there) [
         | inl same ↦ absurd (differ same.0)
-        | inr was ↦ (lock.knows other told was.1).0
+        | inr was ↦ (lock.knows other merged was.1).0
       ] in
       know_more s lock (slice_set (slice_set s.views id both) other newcomer) (λ j v at.
       elim (at_set (slice_set s.views id both) other j newcomer v at) [
         | inl gone ↦ (
           (λ held. let unlike : false ≡ true = ap (λ (v : Visitor E). v.holds) gone.1 ∙ held in absurd (cc)),
           none_begins lock.history v.history (sym (ap (λ (v : Visitor E). v.history) gone.1)),
-          none_begins lock.history v.told (sym (ap (λ (v : Visitor E). v.told) gone.1)),
+          none_begins lock.history v.merged (sym (ap (λ (v : Visitor E). v.merged) gone.1)),
         )
         | inr left ↦ elim (at_set s.views id j both v left.1) [
           | inl one ↦ (
@@ -334,7 +334,7 @@ module _ {T E : Type 0} (leaves : List E → T → Type 0) where
               sym (ap (λ (v : Visitor E). v.history) one.1),
             )),
             subst (λ l. IsPrefixOf l lock.history) (ap (λ (v : Visitor E). v.history) one.1) mine.0,
-            subst (λ l. IsPrefixOf l lock.history) (ap (λ (v : Visitor E). v.told) one.1) theirs,
+            subst (λ l. IsPrefixOf l lock.history) (ap (λ (v : Visitor E). v.merged) one.1) theirs,
           )
           | inr was ↦ let old = lock.knows j v was.1 in ((λ held. (v, was.1, held, refl)), old.0, old.1)
         ]
@@ -347,7 +347,7 @@ module _ {T E : Type 0} (leaves : List E → T → Type 0) where
     omega arith,
     λ s lock _ here _.
         let mine = lock.knows id me.0 here in
-        let new : Visitor E = record { holds = false; history = lock.history; told = [] } in
+        let new : Visitor E = record { holds = false; history = lock.history; merged = [] } in
         let same_words : slice_set s.words 0 (slice_index s.words 0) ≡ s.words = set_same s.words 0 in (
           new,
           keeps,
@@ -357,7 +357,7 @@ module _ {T E : Type 0} (leaves : List E → T → Type 0) where
                 | inl one ↦ (
                   (λ held. let unlike : false ≡ true = ap (λ (v : Visitor E). v.holds) one.1 ∙ held in absurd (cc)),
                   ([], ap (λ (v : Visitor E). v.history) one.1),
-                  none_begins lock.history v.told (sym (ap (λ (v : Visitor E). v.told) one.1)),
+                  none_begins lock.history v.merged (sym (ap (λ (v : Visitor E). v.merged) one.1)),
                 )
                 | inr was ↦ let old = lock.knows j v was.1 in ((λ held. (v, was.1, held, refl)), old.0, old.1)
               ])),
@@ -365,7 +365,7 @@ module _ {T E : Type 0} (leaves : List E → T → Type 0) where
             carries_same = refl;
             holds_same = sym passing;
             goes_on = mine.0;
-            after_told = mine.1;
+            after_merged = mine.1;
             left = lock.left;
           },
         ),
@@ -377,7 +377,7 @@ module _ {T E : Type 0} (leaves : List E → T → Type 0) where
   looks_first words slots one = (
     omega arith,
     λ s lock _ _.
-        let new : Visitor E = record { holds = false; history = lock.history; told = [] } in
+        let new : Visitor E = record { holds = false; history = lock.history; merged = [] } in
         let nothing = none_begins lock.history [] refl in (
           new,
           know_more s lock (s.views ++ new ∷ []) (λ j v at. elim (at_snoc_last s.views new v j at) [
@@ -387,10 +387,10 @@ module _ {T E : Type 0} (leaves : List E → T → Type 0) where
                   let unlike : false ≡ true = ap (λ (v : Visitor E). v.holds) end.1 ∙ held in
                   absurd (cc)),
               ([], ap (λ (v : Visitor E). v.history) end.1),
-              none_begins lock.history v.told (sym (ap (λ (v : Visitor E). v.told) end.1)),
+              none_begins lock.history v.merged (sym (ap (λ (v : Visitor E). v.merged) end.1)),
             )
           ]),
-          record { carries_same = refl; holds_same = refl; goes_on = nothing; after_told = nothing; left = lock.left },
+          record { carries_same = refl; holds_same = refl; goes_on = nothing; after_merged = nothing; left = lock.left },
         ),
   )
 

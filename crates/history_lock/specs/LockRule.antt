@@ -14,7 +14,7 @@ Guest T E = Me (Option T) (Visitor E)
 
 -- who has done nothing yet knows nothing
 abbrev pub newcomer : {E : Type 0} → Visitor E
-newcomer = record { holds = false; history = []; told = [] }
+newcomer = record { holds = false; history = []; merged = [] }
 
 module _ {E : Type 0} where
   -- one visitor, which doesn't hold the value
@@ -52,7 +52,7 @@ module _ {T E : Type 0} where
         → get_elem? s.views k ≡ some w → w.holds ≡ true → j ≡ k
     -- what each visitor knows is a prefix of the history, and the holder knows all of it
     pub knows : (j : ℕ) (v : Visitor E) → get_elem? s.views j ≡ some v
-        → IsPrefixOf v.history history × IsPrefixOf v.told history
+        → IsPrefixOf v.history history × IsPrefixOf v.merged history
     pub holder_knows : (j : ℕ) (v : Visitor E) → get_elem? s.views j ≡ some v → v.holds ≡ true → v.history ≡ history
 
   -- a visitor has the value, and knows a history that leaves it and goes on from what it knew
@@ -69,12 +69,12 @@ module _ {T E : Type 0} where
   -- a store of free brings the value home, and adds an operation
   abbrev pub Frees : (List E → T → E) → Guest T E → Guest T E → Type 0
   Frees adds old new = (value : T) → old.1 ≡ (0, Some value) ∷ []
-      → new ≡ (record { holds = false; history = adds old.0.history value ∷ old.0.history; told = [] }, [])
+      → new ≡ (record { holds = false; history = adds old.0.history value ∷ old.0.history; merged = [] }, [])
 
-  -- a load finds out all operations so far, which go on from what the visitor knew and from what it was told
+  -- a load finds out all operations so far, which go on from what the visitor knew and from what was shared with it
   pub record Looks (leaves : List E → T → Type 0) (old new : Guest T E) : Type 0 where
     pub carries_same : new.1 ≡ old.1
     pub holds_same : new.0.holds ≡ old.0.holds
     pub goes_on : IsPrefixOf old.0.history new.0.history
-    pub after_told : IsPrefixOf old.0.told new.0.history
+    pub after_merged : IsPrefixOf old.0.merged new.0.history
     pub left : (value : T) × leaves new.0.history value

@@ -6,7 +6,7 @@ ghost use Rattle.std.specs.Prelude.{◌≡◌, ◌⊎◌, [], ◌∷◌, Some, I
 ghost use Rattle.history_lock.specs.History.{IsPrefixOf};
 
 use crate::law::{Law, Section};
-use crate::rule::{Free, Look, OneHistory, Take, Tells, Visitor};
+use crate::rule::{Free, Look, OneHistory, Take, Merges, Visitor};
 use crate::seen::Seen;
 use atomic_table::{Refused, Seat, Table};
 use std::alloc::{AllocFailed, Global};
@@ -44,8 +44,6 @@ impl<T, E, L: Law<T, E>> Model for HistoryLock<T, E, L> {
         (lock.table.shared.table_id.words ≡ 1) × (lock.table.shared.table_id.slots ≡ 1) };
 }
 
-/// Not derived: the proof of a caller that drops it has one call here, and a derived drop has that
-/// of each field.
 impl<T: Drop, E, L: Law<T, E>> Drop for HistoryLock<T, E, L> {
     fn drop(self) {
         let HistoryLock { table: _ } = self;
@@ -183,18 +181,18 @@ impl<T, E, L: Law<T, E>> HistoryLock<T, E, L> {
 
     /// Adds to what somebody knows of the lock what somebody else knows: of the two histories one
     /// is a prefix of the other. It costs two loads.
-    pub fn learn(&self, seen: Seen<E>, told: Seen<E>) -> Seen<E>
+    pub fn learn(&self, seen: Seen<E>, other: Seen<E>) -> Seen<E>
         requires of { seen.table ≡ self.now }
-        requires told_of { told.table ≡ self.now }
+        requires other_of { other.table ≡ self.now }
         ensures of { result.table ≡ self.now }
         ensures left { (value : T) × L.leaves result.history value }
         ensures after { IsPrefixOf seen.history result.history }
-        ensures after_told { IsPrefixOf told.history result.history }
-        ensures one { IsPrefixOf seen.history told.history ⊎ IsPrefixOf told.history seen.history }
+        ensures after_other { IsPrefixOf other.history result.history }
+        ensures one { IsPrefixOf seen.history other.history ⊎ IsPrefixOf other.history seen.history }
     {
         let mut seat = seen.into_seat();
         let shared = &self.table.shared;
-        shared.join_seat::<Tells>(&mut seat, told.into_seat());
+        shared.join_seat::<Merges>(&mut seat, other.into_seat());
         shared.load::<Look<L>>(&mut seat, WORD);
         Seen {
             badge: seat.into_badge(),

@@ -10,8 +10,8 @@ pub struct Visitor<E> {
     pub holds: bool,
     /// The operations up to this visitor's last step, of which the last stands first.
     pub history: LinkedList<E>,
-    /// The operations that another visitor knew, when it told them.
-    pub told: LinkedList<E>,
+    /// The operations that another visitor knew, when the two met.
+    pub merged: LinkedList<E>,
 }
 
 /// At most one visitor holds the value, and what lies at home is what one history leaves.
@@ -60,13 +60,13 @@ impl<T, E, S: Section<T, E>> Play<Option<T>, Visitor<E>> for Free<S> {
     ghost then = { λ _ old _ new. Frees S.adds old new };
 }
 
-/// A visitor tells another what it knows, and is gone.
-pub struct Tells;
+/// A visitor shares what it knows with another, and is gone.
+pub struct Merges;
 
-impl<E> Join<Visitor<E>> for Tells {
+impl<E> Join<Visitor<E>> for Merges {
     ghost use Rattle.history_lock.specs.LockRule.{newcomer};
 
-    ghost both = { λ known other. record known { told = other.history } };
+    ghost both = { λ known other. record known { merged = other.history } };
 
     ghost spent = { newcomer };
 }

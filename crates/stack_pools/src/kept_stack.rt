@@ -36,8 +36,6 @@ impl<T, K: Clean<T>> Model for KeptStack<T, K> {
     ghost view = { λ list. list.lock };
 }
 
-/// Not derived: the proof of a caller that drops it has one call here, and a derived drop has that
-/// of each field.
 impl<T: Drop, K: Clean<T>> Drop for KeptStack<T, K> {
     fn drop(self) {
         let KeptStack { lock: _ } = self;
@@ -62,15 +60,15 @@ impl<T: Drop, K: Clean<T>> KeptStack<T, K> {
 
     /// Adds to what one note knows what another knows: of the two histories one is a prefix of the
     /// other.
-    pub fn learn(&self, note: StackNote<T>, told: StackNote<T>) -> StackNote<T>
+    pub fn learn(&self, note: StackNote<T>, other: StackNote<T>) -> StackNote<T>
         requires of { IsNoteOf (Some self.now) note }
-        requires told_of { IsNoteOf (Some self.now) told }
+        requires other_of { IsNoteOf (Some self.now) other }
         ensures of { IsNoteOf (Some self.now) result }
         ensures after { GoesOn note result }
-        ensures after_told { GoesOn told result }
-        ensures one { GoesOn note told ⊎ GoesOn told note }
+        ensures after_other { GoesOn other result }
+        ensures one { GoesOn note other ⊎ GoesOn other note }
     {
-        StackNote::of(self.lock.learn(note.into_seen(), told.into_seen()))
+        StackNote::of(self.lock.learn(note.into_seen(), other.into_seen()))
     }
 }
 

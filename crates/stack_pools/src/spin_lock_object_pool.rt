@@ -106,15 +106,15 @@ impl<T: Drop, I: Init<T, K>, R: Reset<T, K>, K: Clean<T>> SpinLockObjectPool<T, 
     /// ```rust
     /// let both = pool.learn(first, second); // comes after what both threads know
     /// ```
-    pub fn learn(&self, note: StackNote<T>, told: StackNote<T>) -> StackNote<T>
+    pub fn learn(&self, note: StackNote<T>, other: StackNote<T>) -> StackNote<T>
         requires of { IsNoteOf (Some (stack_list self.now)) note }
-        requires told_of { IsNoteOf (Some (stack_list self.now)) told }
+        requires other_of { IsNoteOf (Some (stack_list self.now)) other }
         ensures of { IsNoteOf (Some (stack_list self.now)) result }
         ensures after { GoesOn note result }
-        ensures after_told { GoesOn told result }
-        ensures one { GoesOn note told ⊎ GoesOn told note }
+        ensures after_other { GoesOn other result }
+        ensures one { GoesOn note other ⊎ GoesOn other note }
     {
-        self.kept.learn(note, told)
+        self.kept.learn(note, other)
     }
 }
 

@@ -1,7 +1,7 @@
 use Rattle.std.proofs.Common.{◌∙◌, ◌++◌, sym, ap}
 use Rattle.history_lock.specs.LockRule.{Guest}
 use Rattle.history_lock.proofs.Prefixes.{one_is_prefix}
-use Rattle.history_lock.proofs.LockSteps.{tells, looks}
+use Rattle.history_lock.proofs.LockSteps.{merges, looks}
 use Rattle.history_lock.proofs.lock.HistoryLock.learn.Goals as goal
 
 pub join_seat-requires : goal.join_seat-requires
@@ -9,10 +9,10 @@ join_seat-requires g c =
     let mine = c.into_seat-seat.ensures in
     let theirs = c.into_seat.ensures in (
       mine.table ∙ c.requires.of ∙ sym c.self.view_is,
-      theirs.table ∙ c.requires.told_of ∙ sym c.self.view_is,
+      theirs.table ∙ c.requires.other_of ∙ sym c.self.view_is,
       theirs.passing.1,
       (looks g.L.Law.leaves _ 1 0 c.into_seat-seat.result.me c.self.invariant.0 mine.passing.0).0,
-      tells g.L.Law.leaves c.into_seat-seat.result.id c.into_seat.result.id c.into_seat-seat.result.me.0
+      merges g.L.Law.leaves c.into_seat-seat.result.id c.into_seat.result.id c.into_seat-seat.result.me.0
           c.into_seat.result.me.0 theirs.passing.0,
     )
 
@@ -33,7 +33,7 @@ returns-clause-one g c =
     let look = c.load.ensures.2 in
     let joined = c.join_seat.ensures.2 in
     let from = ap (λ (me : Guest T E). me.0.history) joined ∙ c.into_seat-seat.ensures.history in
-    let told = ap (λ (me : Guest T E). me.0.told) joined ∙ c.into_seat.ensures.history in
-    one_is_prefix c.args.seen.history c.args.told.history c.load.new.seat.me.0.history
+    let merged = ap (λ (me : Guest T E). me.0.merged) joined ∙ c.into_seat.ensures.history in
+    one_is_prefix c.args.seen.history c.args.other.history c.load.new.seat.me.0.history
     (look.goes_on.0, look.goes_on.1 ∙ ap (λ l. look.goes_on.0 ++ l) from)
-    (look.after_told.0, look.after_told.1 ∙ ap (λ l. look.after_told.0 ++ l) told)
+    (look.after_merged.0, look.after_merged.1 ∙ ap (λ l. look.after_merged.0 ++ l) merged)
