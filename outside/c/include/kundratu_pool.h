@@ -383,7 +383,8 @@ static inline void kdr_inline_move_back(const volatile kdr_place *moved, kdr_pla
 }
 
 /* What kdr_cache_pull() does: takes the place that came back last, if one is kept. */
-static inline kdr_status kdr_inline_cache_pull(kdr_cache *cache, kdr_place *place) {
+KDR_NODISCARD KDR_NONNULL static inline kdr_status kdr_inline_cache_pull(kdr_cache *cache,
+                                                                        kdr_place *place) {
     struct kdr_kept *kept = (struct kdr_kept *)cache->open;
     if (KDR_IS_LIKELY(kept != NULL && cache->at == kept && place->after == 0 && kept->count > 0)) {
         size_t last = kept->count - 1;
@@ -402,7 +403,7 @@ static inline kdr_status kdr_inline_cache_pull(kdr_cache *cache, kdr_place *plac
 }
 
 /* What kdr_cache_return() does: keeps the place, if there is room. */
-static inline kdr_status kdr_inline_cache_return(kdr_cache *cache, kdr_place *place) {
+KDR_NONNULL static inline kdr_status kdr_inline_cache_return(kdr_cache *cache, kdr_place *place) {
     struct kdr_kept *kept = (struct kdr_kept *)cache->open;
     size_t number = place->after - 1; /* of an empty place the greatest number */
     if (KDR_IS_LIKELY(kept != NULL && cache->at == kept && number < cache->numbers &&
