@@ -190,21 +190,29 @@ static void follow_a_model(unsigned long calls) {
     end_the_model(&model);
 }
 
+static bool is_same(const kdr_cache *one, const kdr_cache *other) {
+    return memcmp(one, other, sizeof *one) == 0;
+}
+
 /* A zeroed cache is empty. What was made stays as it is if it is made again, or if there is no handle. */
 static void use_zeroed_memory(void) {
     kdr_cache *cache = calloc(1, sizeof *cache);
     kdr_handle none = KDR_HANDLE_EMPTY, first = new_pool(FEW);
     kdr_cache empty = KDR_CACHE_EMPTY;
-    check(cache != NULL && memcmp(cache, &empty, sizeof empty) == 0, "an empty cache isn't one of zeros");
+    check(cache != NULL && is_same(cache, &empty), "an empty cache isn't one of zeros");
     kdr_place place = KDR_PLACE_EMPTY, held = KDR_PLACE_EMPTY;
     check(kdr_place_pull(&first, 0, &held) == KDR_DONE, "no place");
     check(kdr_cache_pull(cache, &place) == KDR_NO_POOL && place.after == 0, "a zeroed cache has a place");
     check(kdr_cache_return(cache, &held) == KDR_NO_POOL && held.after != 0, "a zeroed cache keeps a place");
     check(kdr_cache_flush(cache) == KDR_NO_POOL && kdr_cache_drop(cache) == KDR_NO_POOL, "a zeroed cache was flushed or dropped");
-    check(kdr_cache_new(&none, 1, 0, cache) == KDR_NO_POOL && cache->at == NULL, "a cache was made without a pool");
+    check(kdr_cache_new(&none, 1, 0, cache) == KDR_NO_POOL && is_same(cache, &empty),
+          "a cache was made without a pool");
     check(kdr_cache_new(&first, 1, 0, cache) == KDR_DONE, "a zeroed cache isn't empty");
-    void *at = cache->at;
-    check(kdr_cache_new(&first, 1, 0, cache) == KDR_HAS_POOL && cache->at == at, "a cache was made twice");
+    kdr_handle greater = new_pool(FEW + 1);
+    kdr_cache before = *cache;
+    check(kdr_cache_new(&greater, 1, 0, cache) == KDR_HAS_POOL && is_same(cache, &before),
+          "a cache was made twice");
+    kdr_pool_drop(&greater);
     check(kdr_cache_return(cache, &held) == KDR_DONE && kdr_cache_return(cache, &held) == KDR_HOLDS_NONE, "a place was returned twice");
     check(kdr_cache_drop(cache) == KDR_DONE, "a cache wasn't dropped");
     free(cache);

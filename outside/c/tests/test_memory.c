@@ -188,7 +188,8 @@ static void take_none_by_caches(void) {
         if (status != KDR_NO_MEMORY) {
             break;
         }
-        check(cache.at == NULL && held == before, "a refused cache left something behind");
+        check(!cache.at && !cache.open && !cache.numbers && held == before,
+              "a refused cache left something behind");
     }
     check(status == KDR_DONE, "no cache");
     check(requests > 0, "a cache takes no memory");

@@ -251,6 +251,34 @@ static void compare_versions(void) {
     check(strcmp(kdr_version(), KDR_VERSION) == 0, "the header is of another version than the library");
 }
 
+/* Each status has its number and its name, and no other number has a name. */
+static void name_statuses(void) {
+#define NAMED(status) {status, #status}
+    static const struct {
+        kdr_status status;
+        const char *name;
+    } all[] = {
+        NAMED(KDR_DONE),      NAMED(KDR_ALL_IN_USE), NAMED(KDR_HOLDS_ONE), NAMED(KDR_HOLDS_NONE),
+        NAMED(KDR_NO_POOL),   NAMED(KDR_HAS_POOL),   NAMED(KDR_NO_PLACES), NAMED(KDR_NO_MEMORY),
+        NAMED(KDR_OTHER_POOL), NAMED(KDR_NO_SUCH_PLACE),
+    };
+    kdr_status count = sizeof all / sizeof all[0];
+    for (kdr_status at = 0; at < count; at++) {
+        check(all[at].status == at, "a status has another number");
+        check(strcmp(kdr_status_name(at), all[at].name) == 0, "a status has another name");
+    }
+    check(strcmp(kdr_status_name(count), "unknown") == 0, "a status too many has a name");
+    check(strcmp(kdr_status_name(UINT32_MAX), "unknown") == 0, "the greatest number has a name");
+}
+
+/* Programs that were built with another header of this soname see the same bytes. */
+static void compare_layouts(void) {
+    check(sizeof(kdr_status) == 4 && sizeof(kdr_handle) == 8, "a handle is of another size");
+    check(sizeof(kdr_place) == 16 && sizeof(kdr_cache) == 24, "a place is of another size");
+    check(offsetof(kdr_cache, open) == 8 && offsetof(kdr_cache, numbers) == 16,
+          "a cache is laid out otherwise");
+}
+
 int main(int count, char **words) {
     if (count > 1) {
         for (enum way way = PLAIN; way < WAYS_COUNT; way++) {
@@ -264,8 +292,8 @@ int main(int count, char **words) {
     program = words[0];
 #endif
     compare_versions();
-    check(strcmp(kdr_status_name(KDR_NO_SUCH_PLACE), "KDR_NO_SUCH_PLACE") == 0 && strcmp(kdr_status_name(10), "unknown") == 0,
-          "a status has another name");
+    name_statuses();
+    compare_layouts();
     make_places_up();
     use_zeroed_memory();
     take_another_pool();
