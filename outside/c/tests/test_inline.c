@@ -36,6 +36,8 @@ static void begin(struct user *user, size_t room) {
     memset(user, 0, sizeof *user);
     check(kdr_pool_new(ITEMS, &user->handle) == KDR_DONE, "no pool");
     check(kdr_cache_new(&user->handle, room, 0, &user->cache) == KDR_DONE, "no cache");
+    check(user->cache.open == user->cache.at && user->cache.numbers == ITEMS,
+          "the header's lines don't serve each place of a cache");
 }
 
 static void end(struct user *user) {
@@ -184,17 +186,40 @@ static void use_empty_caches(void) {
               "an empty cache has a place");
         check(kdr_cache_return(caches[at], &place) == KDR_NO_POOL && place.after != 0,
               "an empty cache keeps a place");
+        check(kdr_cache_return(caches[at], &none) == KDR_NO_POOL,
+              "an empty cache looks at a place first");
     }
     check(kdr_place_return(&user.handle, &place) == KDR_DONE &&
               kdr_pool_drop(&user.handle) == KDR_DONE,
           "no end");
 }
 
+/* Each argument is worked out once, whether a place is kept or not, or there is no cache. */
+static void work_out_once(void) {
+    struct user user;
+    kdr_cache none = KDR_CACHE_EMPTY;
+    begin(&user, 1);
+    kdr_cache *caches[] = {&user.cache, &user.cache, &none}, **cache = caches;
+    kdr_place *places[] = {user.places, user.places, user.places + 1}, **place = places;
+    for (int at = 0; at < 3; at++) {
+        kdr_status pulled = kdr_cache_pull(*cache++, *place++);
+        check(cache == caches + at + 1 && place == places + at + 1,
+              "a pull works its words out twice");
+        cache--, place--;
+        kdr_status returned = kdr_cache_return(*cache++, *place++);
+        check(cache == caches + at + 1 && place == places + at + 1,
+              "a return works its words out twice");
+        check(pulled == returned && (pulled == KDR_NO_POOL) == (at == 2), "another answer");
+    }
+    end(&user);
+}
+
 #ifdef HAS_STEPS
 enum { STEP_FLAG = 0x100 };
 
 static kdr_cache watched;
-static long steps, steps_within, refused;
+static kdr_place moved;
+static long steps, steps_within, refused, halves;
 
 /* What runs from here on runs step by step, or does so no longer. */
 static void switch_steps(int sent, siginfo_t *what, void *context) {
@@ -205,17 +230,28 @@ static void switch_steps(int sent, siginfo_t *what, void *context) {
 
 static void pull_and_return(kdr_place *place, int first, int second);
 
-/* At each step that is this file's, not the call's: what a second thread would be told. */
+/* Whether an instruction is of the header's lines, which a compiler may leave in functions. */
+static bool is_of_lines(void *at) {
+    uintptr_t function = (uintptr_t)_Unwind_FindEnclosingFunction(at);
+    return function == (uintptr_t)pull_and_return || function == (uintptr_t)kdr_inline_cache_pull ||
+           function == (uintptr_t)kdr_inline_cache_return;
+}
+
+/* At each step that is this file's, not the call's: what a second thread would be told. Where the
+   cache is open, its place is kept or out, and not both. */
 static void see_step(int sent, siginfo_t *what, void *context) {
     ucontext_t *running = context;
     void *at = (void *)running->uc_mcontext.gregs[REG_RIP];
     kdr_place none = KDR_PLACE_EMPTY;
     (void)sent, (void)what;
     steps++;
-    if ((uintptr_t)_Unwind_FindEnclosingFunction(at) == (uintptr_t)pull_and_return) {
+    if (is_of_lines(at)) {
         steps_within++;
-        if (*(void *volatile *)&watched.at == NULL) {
+        const struct kdr_kept *kept = *(struct kdr_kept *volatile *)&watched.at;
+        if (kept == NULL) {
             refused += (kdr_cache_pull)(&watched, &none) == KDR_NO_POOL;
+        } else {
+            halves += (kept->count > 0) == (moved.after > 0);
         }
     }
 }
@@ -232,10 +268,10 @@ static __attribute__((noinline)) void pull_and_return(kdr_place *place, int firs
 
 /* A signal that is ignored switches nothing. */
 static void step_through(const char *what, int first, int second) {
-    kdr_place place = KDR_PLACE_EMPTY;
-    refused = steps_within = 0;
-    pull_and_return(&place, first, second);
-    check(steps_within > 0 && refused > 0, what);
+    refused = steps_within = halves = 0;
+    moved = KDR_PLACE_EMPTY;
+    pull_and_return(&moved, first, second);
+    check(steps_within > 0 && refused > 0 && halves == 0, what);
     check(watched.at != NULL, "a cache stayed empty");
 }
 
@@ -268,6 +304,7 @@ int main(void) {
         follow_the_calls(ROOM_OF[at]);
     }
     use_empty_caches();
+    work_out_once();
 #ifdef HAS_STEPS
     be_empty_within();
 #endif
