@@ -1,6 +1,8 @@
 /* What KDR_DEBUG makes of kdr_place_return() and kdr_cache_return(). Their answers are the same. Where a place is free that is returned,
-   or the cache keeps it, the program says of which thread's return, and aborts. Other ends of the program, and handlers of its own, are left as they are. */
+   or the cache keeps it, the program says of which thread's return, and aborts. Other ends of
+   the program, handlers of its own, and signals that it ignores are left as they are. NDEBUG changes nothing of this. */
 #define KDR_DEBUG
+#define NDEBUG
 #include "kundratu_pool.h"
 #include <pthread.h>
 #include <signal.h>
@@ -239,6 +241,40 @@ static void leave_own_handlers(void) {
     check(WIFEXITED(status) && WEXITSTATUS(status) == OWN_END && said[0] == 0, "it isn't called");
 }
 
+static void end_nowhere(void) {
+    kdr_handle first = new_pool();
+    kdr_place held = pull(&first);
+    signal(SIGILL, SIG_IGN);
+    signal(SIGTRAP, SIG_IGN);
+    kdr_place_return(&first, &held);
+    raise(SIGILL);
+    raise(SIGTRAP);
+}
+
+static void leave_ignored_signals(void) {
+    char said[1024];
+    doing = "a signal that the program ignores";
+    int status = end_of(end_nowhere, said, sizeof said);
+    check(WIFEXITED(status) && WEXITSTATUS(status) == 0 && said[0] == 0, "the program ends by it");
+}
+
+/* On each processor both signals are listened to from the first return on. */
+static void listen_from_the_first_return(void) {
+    static const int sent[] = {SIGILL, SIGTRAP};
+    struct sigaction now;
+    doing = "the first return";
+    kdr_handle first = new_pool();
+    kdr_place places[] = {pull(&first), pull(&first)}, *next = places;
+    check(signal(SIGILL, SIG_DFL) != SIG_ERR && signal(SIGTRAP, SIG_DFL) != SIG_ERR, "no signals");
+    check(kdr_place_return(&first, next++) == KDR_DONE, "a place isn't returned");
+    check(next == places + 1, "its words are worked out twice");
+    for (int at = 0; at < 2; at++) {
+        check(sigaction(sent[at], NULL, &now) == 0 && now.sa_handler != SIG_DFL, "no handler");
+    }
+    check(kdr_place_return(&first, next) == KDR_DONE, "a place isn't returned");
+    check(kdr_pool_drop(&first) == KDR_DONE, "a handle isn't dropped");
+}
+
 /* Each answer of a return, by this handle and of this place. */
 static void answer_alike(kdr_handle *handle, kdr_place place, kdr_status wanted) {
     kdr_place other = place;
@@ -298,6 +334,8 @@ int main(void) {
     name_a_return_beside_the_first();
     leave_other_ends();
     leave_own_handlers();
+    leave_ignored_signals();
+    listen_from_the_first_return();
     compare_answers();
     compare_cache_answers();
     puts("each return that went wrong was named");
