@@ -154,14 +154,18 @@ static void follow_the_calls(size_t room) {
     end(&other);
 }
 
-/* Memory that was freed gets other bytes. */
-static void use_freed_memory(void) {
+/* Memory that was freed becomes that of a cache of this pool, which keeps a place and has room. */
+static void use_freed_memory(size_t pool) {
     enum { BLOCKS = 16, STEP = 16 };
+    static size_t numbers[2];
+    struct kdr_kept kept = {{1, 1, 1}, pool, numbers, numbers, 1, 2};
     void *blocks[BLOCKS];
     for (size_t at = 0; at < BLOCKS; at++) {
-        blocks[at] = malloc((at + 1) * STEP);
+        size_t size = (at + 1) * STEP;
+        blocks[at] = malloc(size);
         check(blocks[at] != NULL, "no memory");
-        memset(blocks[at], 1, (at + 1) * STEP);
+        memset(blocks[at], 1, size);
+        memcpy(blocks[at], &kept, size < sizeof kept ? size : sizeof kept);
         __asm__ volatile("" : : "r"(blocks[at]) : "memory");
     }
     for (size_t at = 0; at < BLOCKS; at++) {
@@ -178,7 +182,7 @@ static void use_empty_caches(void) {
     check(kdr_cache_pull(&user.cache, &place) == KDR_DONE &&
               kdr_cache_drop(&user.cache) == KDR_DONE,
           "no place");
-    use_freed_memory();
+    use_freed_memory(place.pool);
     kdr_cache *caches[] = {&user.cache, &never};
     for (int at = 0; at < 2; at++) {
         kdr_place none = KDR_PLACE_EMPTY;
