@@ -159,13 +159,22 @@ struct got kdr_0_1_0_alloc(size_t size, size_t align);
 struct got kdr_0_1_0_realloc(void *at, size_t old, size_t size, size_t align);
 void kdr_0_1_0_dealloc(void *at);
 
-/* No pool asks for no bytes, and one that did would get an address of its own. */
+/* No pool asks for no bytes, and one that did would get an address of its own. What is refused has
+   an address too, and the block that was to be longer stays. */
 static void take_no_bytes(void) {
     struct got none = kdr_0_1_0_alloc(0, 16);
     check(asked_bytes == 16 && none.is_some == 1 && none.at != NULL, "a block of no bytes has no address");
     struct got moved = kdr_0_1_0_realloc(none.at, 0, 64, 16);
     check(asked_bytes == 64 && moved.is_some == 1, "a block isn't made longer");
-    none = kdr_0_1_0_realloc(moved.at, 64, 0, 16);
+    *(char *)moved.at = 1;
+    moved = kdr_0_1_0_realloc(moved.at, 64, 128, 16);
+    check(moved.is_some == 1 && *(char *)moved.at == 1, "a block that was made longer has other bytes");
+    asked = refuse_at = 0;
+    struct got refused = kdr_0_1_0_realloc(moved.at, 128, 256, 16);
+    refuse_at = -1;
+    check(refused.is_some == 0 && refused.at != NULL, "a refused block has no address");
+    check(held == 1 && *(char *)moved.at == 1, "a block that isn't made longer doesn't stay");
+    none = kdr_0_1_0_realloc(moved.at, 128, 0, 16);
     check(asked_bytes == 16 && none.is_some == 1 && none.at != NULL, "a block that shrank to none has no address");
     kdr_0_1_0_dealloc(none.at);
     check(held == 0, "a block of no bytes was left behind");
