@@ -81,6 +81,11 @@ static void refuse_new(long requests) {
         check(one.at == NULL && held == 0, "a refused pool left something behind");
     }
     refuse_at = -1;
+    for (size_t fewer = 0; fewer <= 2 * KDR_PAGE_PLACES; fewer++) {
+        kdr_handle one = KDR_HANDLE_EMPTY;
+        check(kdr_pool_new(SIZE_MAX - fewer, &one) == KDR_NO_MEMORY, "a pool of too many places");
+        check(one.at == NULL && held == 0, "a pool of too many places left something behind");
+    }
 }
 
 static void refuse_share(void) {
