@@ -1,6 +1,7 @@
 /* What KDR_DEBUG makes of kdr_place_return() and kdr_cache_return(). Their answers are the same. Where a place is free that is returned,
    or the cache keeps it, the program says of which thread's return, and aborts. Other ends of
-   the program, handlers of its own, and signals that it ignores are left as they are. NDEBUG changes nothing of this. */
+   the program, handlers of its own, and signals that it ignores are left as they are. NDEBUG changes
+   nothing of this. */
 #define KDR_DEBUG
 #define NDEBUG
 #include "kundratu_pool.h"

@@ -173,7 +173,7 @@ static void take_no_bytes(void) {
     check(asked_bytes == 64 && moved.is_some == 1, "a block isn't made longer");
     *(char *)moved.at = 1;
     moved = kdr_0_1_0_realloc(moved.at, 64, 128, 16);
-    check(moved.is_some == 1 && *(char *)moved.at == 1, "a block that was made longer has other bytes");
+    check(moved.is_some == 1 && *(char *)moved.at == 1, "a longer block has other bytes");
     asked = refuse_at = 0;
     struct got refused = kdr_0_1_0_realloc(moved.at, 128, 256, 16);
     refuse_at = -1;
