@@ -9,7 +9,6 @@ pub(crate) fn look<P>(look: impl FnOnce() -> Option<P>) -> Option<P> {
 }
 
 /// Comes before a place is returned to the library, a lock of its handle, and a box that is set.
-#[inline(always)]
 pub(crate) fn before(_: Step) {}
 
 /// A step that isn't an atomic's.

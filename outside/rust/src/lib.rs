@@ -38,6 +38,12 @@ pub use pools::stack::{MutexObjectPool, MutexOwnedReusable, MutexReusable, SpinL
 pub use pools::stack::{SpinLockObjectPool, SpinLockOwnedReusable, SpinLockReusable};
 pub use pools::stack::{StackGuard, StackObjectPool};
 pub use status::Status;
+use std::sync::{Mutex, MutexGuard, PoisonError};
+
+/// Locks, also after a panic under the lock.
+fn lock<V>(mutex: &Mutex<V>) -> MutexGuard<'_, V> {
+    mutex.lock().unwrap_or_else(PoisonError::into_inner)
+}
 
 /// Ends the process: a place is of another pool. It doesn't unwind, so a guard's end needs one way.
 #[cold]

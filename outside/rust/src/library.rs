@@ -2,9 +2,9 @@
 pub(crate) mod calls;
 
 use crate::atomics::{self, AtomicUsize, Ordering::SeqCst, Step};
+use crate::lock;
 use calls::{Handle, PAGE};
-use std::ptr;
-use std::sync::{Mutex, PoisonError};
+use std::{ptr, sync::Mutex};
 
 /// The right to a place, which is held. What returns the place or keeps it spends this.
 #[derive(Debug, PartialEq)]
@@ -16,12 +16,10 @@ impl Place {
     /// # Safety
     ///
     /// The place was pulled, and nobody else has it.
-    #[inline(always)]
     pub(crate) unsafe fn held(number: usize) -> Place {
         Place(number)
     }
 
-    #[inline(always)]
     pub(crate) fn number(&self) -> usize {
         self.0
     }
@@ -54,26 +52,20 @@ pub(crate) struct Library {
 impl Library {
     /// Creates a pool of so many places, which are free. `None` if memory is refused.
     pub(crate) fn new(places: usize) -> Option<Library> {
-        Some(Library {
-            shared: Mutex::new(calls::open(places)?),
-            places,
-            returned: AtomicUsize::new(SOME),
-        })
+        let shared = Mutex::new(calls::open(places)?);
+        Some(Library { shared, places, returned: AtomicUsize::new(SOME) })
     }
 
     /// Creates a pool of so many places, which are held. `None` if memory is refused.
     pub(crate) fn held(places: usize) -> Option<Library> {
-        let mut library = Library::new(places)?;
-        let shared = library.shared.get_mut();
-        let shared = shared.unwrap_or_else(PoisonError::into_inner);
+        let mut shared = calls::open(places)?;
         for place in 0..places {
             shared.pull(place / PAGE);
         }
-        library.returned = AtomicUsize::new(NONE);
-        Some(library)
+        let (shared, returned) = (Mutex::new(shared), AtomicUsize::new(NONE));
+        Some(Library { shared, places, returned })
     }
 
-    #[inline(always)]
     pub(crate) fn places(&self) -> usize {
         self.places
     }
@@ -87,7 +79,7 @@ impl Library {
     #[inline(never)]
     fn with_shared<A>(&self, call: impl FnOnce(&mut Handle) -> A) -> A {
         atomics::before(Step::Locks);
-        call(&mut self.shared.lock().unwrap_or_else(PoisonError::into_inner))
+        call(&mut lock(&self.shared))
     }
 
     #[inline(always)]
@@ -99,8 +91,7 @@ impl Library {
     /// were out, but those whose return wasn't over.
     #[inline(always)]
     pub(crate) fn pull(&self, own: &mut OwnHandle, page: usize) -> Option<Place> {
-        let place = self.pull_once(own, page);
-        place.or_else(|| self.pull_again(own, page))
+        self.pull_once(own, page).or_else(|| self.pull_again(own, page))
     }
 
     /// Pulls a place as `pull` does. If there is none, it doesn't say so.
@@ -135,36 +126,31 @@ impl Library {
         place.map(Place)
     }
 
-    /// Returns a place. If it wasn't known that one may be found, it makes this call before that is
-    /// said.
+    /// Returns a place. If it wasn't known that one may be found, it makes this call before it says
+    /// so.
     ///
     /// # Safety
     ///
     /// The handle and the place are of this pool.
     #[inline(always)]
-    pub(crate) unsafe fn give_back(
-        &self,
-        own: &mut OwnHandle,
-        Place(place): Place,
-        before_it_is_said: impl FnOnce(),
-    ) {
+    pub(crate) unsafe fn give_back(&self, own: &mut OwnHandle, place: Place, call: impl FnOnce()) {
         atomics::before(Step::Returns);
         #[allow(unused_unsafe)] // the call in Rust is safe
         // SAFETY: the place is out, of this pool, and so is the shared handle.
-        let give_back = |handle: &mut Handle| unsafe { handle.give_back(place) };
+        let give_back = |handle: &mut Handle| unsafe { handle.give_back(place.0) };
         match own {
             Some(own) => give_back(own),
             None => self.with_shared(give_back),
         }
         if self.returned.load(SeqCst) != SOME {
-            self.say_returned(mark(own), before_it_is_said);
+            self.say_returned(mark(own), call);
         }
     }
 
     #[inline(never)]
-    fn say_returned(&self, mark: usize, before_it_is_said: impl FnOnce()) {
+    fn say_returned(&self, mark: usize, call: impl FnOnce()) {
         self.returned.store(mark, SeqCst);
-        before_it_is_said();
+        call();
         // If another mark stands there, whose look or return that is says it.
         let _ = self.returned.compare_exchange(mark, SOME, SeqCst, SeqCst);
     }

@@ -29,8 +29,7 @@ impl<T> OnceBox<T> {
     pub(crate) fn set(&self, value: T) -> Option<&T> {
         atomics::before(Step::Sets);
         let made = Box::into_raw(boxed(value)?);
-        let result = self.set.compare_exchange(ptr::null_mut(), made, AcqRel, Acquire);
-        if result.is_err() {
+        if self.set.compare_exchange(ptr::null_mut(), made, AcqRel, Acquire).is_err() {
             // SAFETY: nobody else has it.
             drop(unsafe { Box::from_raw(made) });
         }
@@ -40,10 +39,9 @@ impl<T> OnceBox<T> {
 
 impl<T> Drop for OnceBox<T> {
     fn drop(&mut self) {
-        let set = *self.set.get_mut();
-        if !set.is_null() {
+        if let Some(set) = NonNull::new(*self.set.get_mut()) {
             // SAFETY: it was made by `Box::into_raw`, and nobody borrows it any more.
-            drop(unsafe { Box::from_raw(set) });
+            drop(unsafe { Box::from_raw(set.as_ptr()) });
         }
     }
 }

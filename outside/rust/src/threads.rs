@@ -1,13 +1,13 @@
-//! Numbers of threads, and values that one thread at a time has by its number. A number is a place of
-//! a pool of the proved library, which its thread holds from its first call to its end.
+//! Numbers of threads, and what a thread has by its number. A number is a place of a pool of the
+//! proved library, which its thread holds from its first call to its end.
 #[cfg(all(target_os = "linux", target_env = "gnu"))]
 mod late;
 pub(crate) mod slots;
 
-use crate::{library::calls::Handle, places::growing::Growing, pools::guard::AtEnd, refuse};
+use crate::{library::calls::Handle, lock, places::growing::Growing, pools::guard::AtEnd};
 use std::cell::{Cell, RefCell};
 use std::marker::PhantomData;
-use std::sync::{Mutex, MutexGuard, PoisonError, Weak};
+use std::sync::{Mutex, Weak};
 
 /// How many numbers come first. Those after them come in groups, each of as many as all before.
 pub(crate) const FIRST: usize = 32;
@@ -39,7 +39,6 @@ pub(crate) struct Number(usize, PhantomData<*const ()>);
 
 impl Number {
     /// Returns the number, of which there are `NUMBERS`, or one that is none of them.
-    #[inline(always)]
     pub(crate) fn get(&self) -> usize {
         self.0
     }
@@ -81,30 +80,6 @@ fn find() -> usize {
     KNOWN.get()
 }
 
-/// A value of the thread that has a number.
-pub(crate) struct Owned<T> {
-    number: usize,
-    value: T,
-}
-
-// SAFETY: the value is reached by the number, which one thread has at a time. So to share it is to
-// send it from one to another.
-unsafe impl<T: Send> Sync for Owned<T> {}
-
-impl<T> Owned<T> {
-    pub(crate) fn new(number: &Number, value: T) -> Owned<T> {
-        Owned { number: number.0, value }
-    }
-
-    #[inline(always)]
-    pub(crate) fn get<'o>(&'o self, number: &'o Number) -> &'o T {
-        if self.number != number.0 {
-            refuse();
-        }
-        &self.value
-    }
-}
-
 /// The pools where a thread may keep places. Its end returns them, and the thread's number.
 struct Holder(RefCell<Vec<Weak<Growing>>>);
 
@@ -116,19 +91,14 @@ fn before(pool: usize) -> usize {
     pool.checked_sub(1).map_or(0, |group| FIRST << group)
 }
 
-fn lock(pool: usize) -> MutexGuard<'static, Option<Handle>> {
-    POOLS[pool].lock().unwrap_or_else(PoisonError::into_inner)
-}
-
 /// Pulls a number of the first pool that has one.
 pub(crate) fn pull_number() -> Option<usize> {
     (0..POOLS.len()).find_map(|pool| {
-        let mut numbers = lock(pool);
+        let mut numbers = lock(&POOLS[pool]);
         if numbers.is_none() {
             *numbers = Handle::new(before(pool).max(FIRST));
         }
-        let number = numbers.as_mut()?.pull(0)?;
-        Some(before(pool) + number)
+        Some(before(pool) + numbers.as_mut()?.pull(0)?)
     })
 }
 
@@ -139,12 +109,12 @@ pub(crate) fn pull_number() -> Option<usize> {
 /// It was pulled here, and is returned once.
 pub(crate) unsafe fn return_number(number: usize) {
     let pool = (number / FIRST).checked_ilog2().map_or(0, |group| group as usize + 1);
-    if let Some(numbers) = &mut *lock(pool) {
+    if let Some(numbers) = &mut *lock(&POOLS[pool]) {
         #[allow(unused_unsafe)] // the call in Rust is safe
         // SAFETY: the caller says that it was pulled, and is returned once.
         unsafe {
-            numbers.give_back(number - before(pool));
-        }
+            numbers.give_back(number - before(pool))
+        };
     }
 }
 

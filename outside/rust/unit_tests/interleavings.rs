@@ -441,7 +441,7 @@ fn later_pulls_and_returns_take_no_lock() {
 /// Behind the last slot there is room on its cache lines that no other memory has.
 #[test]
 fn slots_share_no_cache_line_with_other_memory() {
-    let slots = |count| crate::places::slots::Slots::new((0..count).map(|at| at as u32));
+    let slots = |count| crate::places::slots::Slots::new(count, || 0_u32);
     for count in [1_usize, 8, 31, 32, 1_000] {
         let room = slots(count).expect("there is memory").room();
         assert!(room >= 128, "{room} bytes after {count} slots");

@@ -85,26 +85,17 @@ struct Got {
 }
 
 fn got(at: *mut c_void) -> Got {
-    let is_some = usize::from(!at.is_null());
-    Got { is_some, at: NonNull::new(at).unwrap_or(NonNull::dangling()) }
+    Got { is_some: usize::from(!at.is_null()), at: NonNull::new(at).unwrap_or(NonNull::dangling()) }
 }
 
-/// The size to ask for: a block of no bytes has an address too.
-fn asked(size: usize, align: usize) -> usize {
-    if size == 0 {
-        align
-    } else {
-        size
-    }
-}
-
-/// The functions by the convention of the proved code, which is one on x86-64.
+/// The functions by the convention of the proved code, which is one on x86-64. A size is a multiple
+/// of its alignment. If it is 0, they ask for more, since such a block has an address too.
 macro_rules! functions {
     ($convention:literal) => {
         // SAFETY: the proved code asks for alignments that `malloc` keeps, and hands back each block
         // once, which it had from these functions.
         unsafe extern $convention fn alloc(size: usize, align: usize) -> Got {
-            got(unsafe { libc::malloc(asked(size, align)) })
+            got(unsafe { libc::malloc(size.max(align)) })
         }
 
         unsafe extern $convention fn realloc(
@@ -113,7 +104,7 @@ macro_rules! functions {
             size: usize,
             align: usize,
         ) -> Got {
-            got(unsafe { libc::realloc(at, asked(size, align)) })
+            got(unsafe { libc::realloc(at, size.max(align)) })
         }
 
         unsafe extern $convention fn dealloc(at: *mut c_void) {

@@ -26,8 +26,7 @@ impl Handle {
         words.try_reserve_exact(pages).ok()?;
         let places_of = |page: usize| (count - page * PAGE).min(PAGE);
         words.extend((0..pages).map(|page| AtomicU64::new((1 << places_of(page)) - 1)));
-        let hint = AtomicUsize::new(0);
-        Some(Handle(Arc::new(Places { words, hint })))
+        Some(Handle(Arc::new(Places { words, hint: AtomicUsize::new(0) })))
     }
 
     /// Opens a further handle of its pool.
@@ -39,8 +38,7 @@ impl Handle {
     pub fn pull(&mut self, page: usize) -> Option<usize> {
         let places = &self.0;
         let start = page % places.words.len();
-        let place = places.take_lowest(start, places.look(start).0);
-        place.or_else(|| places.pull_further(start))
+        places.take_lowest(start, places.look(start).0).or_else(|| places.pull_further(start))
     }
 
     /// Returns a place, which is out of this pool. The pages are hinted at that had no free place.

@@ -80,9 +80,8 @@ impl Handle {
     /// The place is out of the handle's pool.
     #[inline(never)]
     pub unsafe fn give_back(&mut self, place: usize) {
-        let (after, tag) = (place.wrapping_add(1), 0);
         // SAFETY: the caller says that it is out of the handle's pool.
-        unsafe { place_return(self, &mut Place { after, tag }) };
+        unsafe { place_return(self, &mut Place { after: place.wrapping_add(1), tag: 0 }) };
     }
 }
 

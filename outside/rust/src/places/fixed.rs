@@ -2,8 +2,8 @@
 use super::kept::Kept;
 use crate::atomics::{fence, Ordering::SeqCst};
 use crate::library::{calls::PAGE, Library, OwnHandle, Place};
-use crate::threads::{self, slots::ThreadSlots, Number, Owned};
-use crate::{places::slots::OwnLines, pools::pool::NewError, status::Pulled};
+use crate::threads::{self, slots::Mine, slots::ThreadSlots, Number};
+use crate::{places::slots::OwnLines, pools::pool::NewError};
 use std::cell::{Cell, RefCell};
 
 /// How many places a thread pulls at one page, if others return them.
@@ -11,20 +11,10 @@ const TOGETHER: isize = 4;
 
 pub(crate) struct Fixed {
     library: OwnLines<Library>,
-    thread_slots: ThreadSlots<OwnLines<ThreadSlot>>,
-    /// What threads without a slot pulled.
-    pulled: Pulled,
+    thread_slots: ThreadSlots<Kept, Own>,
 }
 
-/// What a thread has of the pool. What it keeps lies first: tests of order look for it there.
-#[repr(C)]
-struct ThreadSlot {
-    kept: Kept,
-    pulled: Pulled,
-    own: Owned<Own>,
-}
-
-/// What other threads don't reach.
+/// What a thread has that others don't reach.
 struct Own {
     /// What the thread slot's `Kept` is while it has no place.
     empty: Cell<u64>,
@@ -49,11 +39,8 @@ impl Fixed {
         if places == 0 {
             return Err(NewError::NoItems);
         }
-        Ok(Fixed {
-            library: OwnLines(Library::new(places).ok_or(NewError::Memory)?),
-            thread_slots: ThreadSlots::new(),
-            pulled: Pulled::default(),
-        })
+        let library = OwnLines(Library::new(places).ok_or(NewError::Memory)?);
+        Ok(Fixed { library, thread_slots: ThreadSlots::new() })
     }
 
     pub(crate) fn places(&self) -> usize {
@@ -62,17 +49,16 @@ impl Fixed {
 
     /// Returns how many places were pulled and not returned, as each thread counts it.
     pub(crate) fn pulled(&self) -> usize {
-        let of_threads = self.thread_slots.all().map(|slot| &slot.0.pulled);
-        Pulled::sum(of_threads.chain([&self.pulled]))
+        self.thread_slots.pulled()
     }
 
     /// Pulls a place. `None` if all were out at one moment.
     #[inline(always)]
     pub(crate) fn pull(&self) -> Option<Place> {
         let kept = threads::with_known(|number| {
-            let OwnLines(slot) = self.thread_slots.get(number)?;
-            let place = slot.kept.take_own(slot.own.get(number).empty.get())?;
-            slot.pulled.add_own(1);
+            let mine = self.thread_slots.get(number)?;
+            let place = mine.slot.kept.take_own(mine.own().empty.get())?;
+            self.thread_slots.count(Some(mine), 1);
             Some(place)
         });
         kept.or_else(|| self.pull_further())
@@ -81,17 +67,14 @@ impl Fixed {
     /// Pulls a place that the thread doesn't keep.
     #[inline(never)]
     fn pull_further(&self) -> Option<Place> {
-        threads::with(|number| match number.and_then(|number| self.own(number)) {
-            Some((thread_slot, own)) => {
-                let way = &mut *own.way.borrow_mut();
+        threads::with(|number| match number.and_then(|number| self.mine(number)) {
+            Some(mine) => {
+                let way = &mut *mine.own().way.borrow_mut();
                 let place = way.pull(&self.library.0);
                 let place = place.or_else(|| self.look(&mut way.handle));
-                place.inspect(|_| thread_slot.pulled.add_own(1))
+                place.inspect(|_| self.thread_slots.count(Some(mine), 1))
             }
-            None => {
-                let place = self.look(&mut None);
-                place.inspect(|_| self.pulled.add(1))
-            }
+            None => self.look(&mut None).inspect(|_| self.thread_slots.count(None, 1)),
         })
     }
 
@@ -103,9 +86,9 @@ impl Fixed {
     #[inline(always)]
     pub(crate) unsafe fn give_back(&self, place: Place) {
         let kept = threads::with_known(|number| {
-            let Some(OwnLines(slot)) = self.thread_slots.get(number) else { return Err(place) };
-            slot.kept.keep(place, &slot.own.get(number).empty)?;
-            slot.pulled.add_own(-1);
+            let Some(mine) = self.thread_slots.get(number) else { return Err(place) };
+            mine.slot.kept.keep(place, &mine.own().empty)?;
+            self.thread_slots.count(Some(mine), -1);
             Ok(())
         });
         if let Err(place) = kept {
@@ -123,31 +106,24 @@ impl Fixed {
     unsafe fn give_back_further(&self, place: Place) {
         // SAFETY: the handles below are of this pool, and the caller says it of the place.
         let give_back = |handle: &mut _| unsafe { self.library.0.give_back(handle, place, || ()) };
-        threads::with(|number| match number.and_then(|number| self.own(number)) {
-            Some((thread_slot, own)) => {
-                let way = &mut *own.way.borrow_mut();
-                way.left += 1;
-                thread_slot.pulled.add_own(-1);
-                give_back(&mut way.handle);
-            }
-            None => {
-                self.pulled.add(-1);
-                give_back(&mut None);
-            }
+        threads::with(|number| {
+            let mine = number.and_then(|number| self.mine(number));
+            self.thread_slots.count(mine, -1);
+            let Some(mine) = mine else { return give_back(&mut None) };
+            let way = &mut *mine.own().way.borrow_mut();
+            way.left += 1;
+            give_back(&mut way.handle);
         });
     }
 
     /// Returns what a thread has, which is made if it isn't there. `None` if memory is refused.
-    fn own<'o>(&'o self, number: &'o Number) -> Option<(&'o ThreadSlot, &'o Own)> {
-        let thread_slot = self.thread_slots.get(number);
-        let new = || {
+    fn mine<'s>(&'s self, number: &'s Number) -> Option<Mine<'s, Kept, Own>> {
+        self.thread_slots.get(number).or_else(|| {
             let way = Way::new(number.get(), self.places().div_ceil(PAGE), self.library.0.open());
             let own = Own { empty: Cell::new(Kept::NONE), way: RefCell::new(way) };
-            let (kept, pulled, own) = (Kept::new(), Pulled::default(), Owned::new(number, own));
-            self.thread_slots.make(number, OwnLines(ThreadSlot { kept, pulled, own }))
-        };
-        let OwnLines(thread_slot) = thread_slot.or_else(new)?;
-        Some((thread_slot, thread_slot.own.get(number)))
+            self.thread_slots.make(number, Kept::new(), own)?;
+            self.thread_slots.get(number)
+        })
     }
 
     /// Pulls a place that a thread keeps or that the library has. `None` if all were out at one moment.
@@ -156,9 +132,7 @@ impl Fixed {
         fence(SeqCst);
         let mut before = self.take_kept();
         loop {
-            let Err(count) = before else {
-                return before.ok();
-            };
+            let Err(count) = before else { return before.ok() };
             if let Some(place) = self.library.0.pull_again(handle, 0) {
                 return Some(place);
             }
@@ -173,7 +147,7 @@ impl Fixed {
     fn take_kept(&self) -> Result<Place, u64> {
         let mut count = 0_u64;
         for thread_slot in self.thread_slots.all() {
-            match thread_slot.0.kept.take() {
+            match thread_slot.kept.take() {
                 Ok(place) => return Ok(place),
                 Err(often) => count = count.wrapping_add(often),
             }

@@ -6,16 +6,16 @@ mod thread_slot;
 use crate::atomics::{AtomicUsize, Ordering::Relaxed, Ordering::SeqCst};
 use crate::library::{calls::PAGE, OwnHandle, Place};
 use crate::threads::{self, Number};
-use crate::{places::slots::OwnLines, refuse, status, threads::slots::ThreadSlots};
+use crate::{places::slots::OwnLines, refuse};
 use parts::Part;
 pub(crate) use parts::{PartName, Parts};
 use std::ptr::NonNull;
 use std::sync::{Arc, Mutex};
-use thread_slot::{Mine, ThreadSlot, Way};
+use thread_slot::{Mine, ThreadSlots, Way};
 
 pub(crate) struct Growing {
     parts: Parts<Part>,
-    thread_slots: ThreadSlots<OwnLines<ThreadSlot>>,
+    thread_slots: ThreadSlots,
     news: OwnLines<News>,
 }
 
@@ -27,8 +27,6 @@ struct News {
     /// The places whose items weren't made, since `init` panicked, and how many they are.
     bare: Mutex<Vec<usize>>,
     bare_count: AtomicUsize,
-    /// What threads without a slot pulled.
-    pulled: status::Pulled,
 }
 
 /// The right to a place that was pulled just now. It has no item if nobody had it, or `init` panicked.
@@ -48,11 +46,8 @@ unsafe impl Send for Held {}
 
 impl Growing {
     pub(crate) fn new() -> Growing {
-        Growing {
-            parts: Parts::new(),
-            thread_slots: ThreadSlots::new(),
-            news: OwnLines(News::default()),
-        }
+        let news = OwnLines(News::default());
+        Growing { parts: Parts::new(), thread_slots: ThreadSlots::new(), news }
     }
 
     /// Returns how many places there are, have an item, and were pulled and not returned.
@@ -60,27 +55,15 @@ impl Growing {
         let parts = || self.parts.all(0).map(|(_, part)| part);
         let given: usize = parts().map(Part::given).sum();
         let made = given.saturating_sub(self.news.0.bare_count.load(Relaxed));
-        let slots = || self.thread_slots.all().map(|slot| &slot.0);
-        let pulled = slots().map(|slot| &slot.pulled);
-        let pulled = status::Pulled::sum(pulled.chain([&self.news.0.pulled]));
-        let kept: usize = slots().map(ThreadSlot::kept).sum();
-        [parts().map(|part| part.library.places()).sum(), made, pulled.wrapping_sub(kept)]
-    }
-
-    /// Counts that a thread pulled places of parts, or returned them there.
-    #[inline(always)]
-    fn count(&self, mine: Option<Mine<'_>>, more: isize) {
-        match mine {
-            Some(mine) => mine.slot.pulled.add_own(more),
-            None => self.news.0.pulled.add(more),
-        }
+        let in_use = self.thread_slots.pulled().wrapping_sub(self.thread_slots.kept());
+        [parts().map(|part| part.library.places()).sum(), made, in_use]
     }
 
     /// Pulls a place. `item` finds its item, if the thread doesn't keep it, and pulls it if need be.
     #[inline(always)]
-    pub(crate) fn pull(self: &Arc<Self>, item: impl Fn(Option<PulledPlace>) -> Held) -> Held {
+    pub(crate) fn pull(&self, item: impl Fn(Option<PulledPlace>) -> Held) -> Held {
         threads::with_known(|number| {
-            let mine = self.mine(number);
+            let mine = self.thread_slots.get(number);
             let kept = mine.and_then(Mine::take);
             kept.unwrap_or_else(|| self.pull_other(mine, item))
         })
@@ -88,11 +71,7 @@ impl Growing {
 
     /// Pulls a place that the thread doesn't keep.
     #[inline(never)]
-    fn pull_other<I: Fn(Option<PulledPlace>) -> Held>(
-        self: &Arc<Self>,
-        mine: Option<Mine<'_>>,
-        item: I,
-    ) -> Held {
+    fn pull_other<I: Fn(Option<PulledPlace>) -> Held>(&self, mine: Option<Mine>, item: I) -> Held {
         // A thread that isn't noted has no counts of its own yet.
         let mine = mine.filter(|mine| mine.is_noted());
         if let Some(mine) = mine.filter(|mine| mine.only_pulls()) {
@@ -109,9 +88,7 @@ impl Growing {
     #[inline(never)]
     fn pull_ahead(&self, mine: Mine<'_>, item: impl Fn(Option<PulledPlace>) -> Held) {
         while mine.has_room() {
-            let Some(pulled) = self.pull_near(mine) else {
-                break;
-            };
+            let Some(pulled) = self.pull_near(mine) else { break };
             let kept = mine.keep(item(Some(pulled)));
             debug_assert!(kept.is_ok(), "there was room");
         }
@@ -127,7 +104,7 @@ impl Growing {
         let place = part.library.pull(way.own_handle(name)?, page)?;
         way.go_on(place.number() / PAGE, part.pages());
         mine.count_pull();
-        self.count(Some(mine), 1);
+        self.thread_slots.count(Some(mine), 1);
         Some(name.pulled(place))
     }
 
@@ -136,7 +113,7 @@ impl Growing {
     #[cold]
     pub(crate) fn pull_far(self: &Arc<Self>) -> Result<PulledPlace, Option<PartName>> {
         threads::with(|number| {
-            let mine = number.and_then(|number| self.mine_or_new(number));
+            let mine = number.and_then(|number| self.thread_slots.get_or_make(number));
             if let Some(mine) = mine.filter(|mine| !mine.is_noted()) {
                 self.note(mine); // where that is refused memory, it comes here again
             }
@@ -149,7 +126,7 @@ impl Growing {
                 Some(mut way) => look(&mut way, mine),
                 None => look(&mut Way::new(PartName::first(0), false), None),
             };
-            pulled.inspect(|_| self.count(mine, 1))
+            pulled.inspect(|_| self.thread_slots.count(mine, 1))
         })
     }
 
@@ -161,7 +138,7 @@ impl Growing {
     #[inline(always)]
     pub(crate) unsafe fn give_back(self: &Arc<Self>, held: Held) {
         threads::with_known(|number| {
-            let mine = self.mine(number);
+            let mine = self.thread_slots.get(number);
             let kept = match mine {
                 Some(mine) => mine.keep(held),
                 None => Err(held),
@@ -215,23 +192,18 @@ impl Growing {
     ///
     /// The place is of this pool.
     #[cold]
-    #[inline(never)]
-    unsafe fn give_back_far(self: &Arc<Self>, mut held: Held) {
+    unsafe fn give_back_far(self: &Arc<Self>, held: Held) {
         threads::with(|number| {
-            let mine = number.and_then(|number| self.mine_or_new(number));
+            let mine = number.and_then(|number| self.thread_slots.get_or_make(number));
             let first = mine.filter(|mine| !mine.is_noted() && self.note(*mine).is_some());
             if let Some(mine) = first {
-                match mine.keep(held) {
-                    Ok(()) => return,
-                    Err(refused) => held = refused,
-                }
+                let _ = mine.keep(held); // there is room
+                return;
             }
             let mine = mine.filter(|mine| mine.is_noted());
             let name = PartName::of(held.at).0;
-            let by = |handle: &mut _| unsafe {
-                // SAFETY: the handles below are of the place's part, and the caller says it of the place.
-                self.give_back_by(handle, mine, held)
-            };
+            // SAFETY: the handles are of the place's part, and the caller says it of the place.
+            let by = |handle: &mut _| unsafe { self.give_back_by(handle, mine, held) };
             match mine.and_then(Mine::way) {
                 Some(mut way) => by(way.handle(name, &self.part(name).library)),
                 None => by(&mut None),
@@ -246,7 +218,7 @@ impl Growing {
     /// The place is of this pool, and the handle of its part.
     #[inline(always)]
     unsafe fn give_back_by(&self, handle: &mut OwnHandle, mine: Option<Mine<'_>>, held: Held) {
-        self.count(mine, -1);
+        self.thread_slots.count(mine, -1);
         let (name, place) = PartName::of(held.at);
         let count_change = || _ = self.news.0.changes.fetch_add(1, SeqCst);
         // SAFETY: `held` was the right to this place.
@@ -272,7 +244,7 @@ impl Growing {
     }
 
     pub(crate) fn return_kept(self: &Arc<Self>, number: &Number) {
-        if let Some(ended) = self.mine(number) {
+        if let Some(ended) = self.thread_slots.get(number) {
             self.return_all(ended);
             ended.end();
         }
@@ -281,18 +253,6 @@ impl Growing {
     /// Makes a part of so many places, if it isn't there. `None` if memory is refused.
     pub(crate) fn make(&self, name: PartName, places: usize) -> Option<()> {
         self.parts.make(name, || Part::new(places))
-    }
-
-    #[inline(always)]
-    fn mine<'s>(&'s self, number: &'s Number) -> Option<Mine<'s>> {
-        Some(self.thread_slots.get(number)?.0.mine(number))
-    }
-
-    /// Returns a thread's slot, which is made if it isn't there. `None` if memory is refused.
-    fn mine_or_new<'s>(&'s self, number: &'s Number) -> Option<Mine<'s>> {
-        let new = || OwnLines(ThreadSlot::new(number));
-        let made = || Some(self.thread_slots.make(number, new())?.0.mine(number));
-        self.mine(number).or_else(made)
     }
 
     #[inline(always)]

@@ -18,12 +18,11 @@ pub(crate) struct OwnLines<V>(pub(crate) V);
 pub(crate) struct Slots<V>(Vec<Slot<V>>);
 
 impl<V> Slots<V> {
-    /// Creates the slots of these values, in their order. `None` if memory is refused.
-    pub(crate) fn new(values: impl ExactSizeIterator<Item = V>) -> Option<Slots<V>> {
+    /// Creates so many slots, with values that this makes. `None` if memory is refused.
+    pub(crate) fn new(count: usize, mut value: impl FnMut() -> V) -> Option<Slots<V>> {
         let mut slots = Vec::new();
-        let capacity = Self::with_room(values.len())?;
-        slots.try_reserve_exact(capacity).ok()?;
-        slots.extend(values.map(|value| Slot(UnsafeCell::new(value))));
+        slots.try_reserve_exact(Self::with_room(count)?).ok()?;
+        slots.resize_with(count, || Slot(UnsafeCell::new(value())));
         Some(Slots(slots))
     }
 

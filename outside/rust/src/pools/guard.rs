@@ -80,8 +80,7 @@ impl<P: Deref<Target: Source<Item = T, At = A>>, T, A> Guard<P, T, A> {
     /// The place was pulled from this pool, and nobody else has it.
     #[inline(always)]
     pub(crate) unsafe fn new(pool: P, at: A) -> Self {
-        let (at, item) = (ManuallyDrop::new(at), PhantomData);
-        Guard { pool, at, item }
+        Guard { pool, at: ManuallyDrop::new(at), item: PhantomData }
     }
 
     /// Borrows what lies at the place.

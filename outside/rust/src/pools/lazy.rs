@@ -8,7 +8,6 @@ mod idle;
 mod places;
 mod queue;
 mod signs;
-mod stock;
 mod tasks;
 mod turn;
 mod waiters;
@@ -16,11 +15,10 @@ mod waiters;
 use crate::places::slots::Slots;
 use crate::pools::{guard::Guard, or_else::OrElse, pool::NewError};
 use crate::status::Status;
-use builder::Calls;
 pub use builder::{Builder, BuilderOf, Event, Manager};
 pub use error::PullError;
 use held::{keep_if, Got, Held};
-use idle::{Entry, Times};
+use idle::Entry;
 use places::Places;
 use std::fmt::{self, Debug, Formatter};
 use std::time::{Duration, Instant};
@@ -71,10 +69,7 @@ type Judge<T> = Box<dyn Fn(&mut T) -> bool + Send + Sync>;
 pub struct LazyPool<T, E> {
     items: Slots<Entry<T>>,
     places: Places,
-    calls: Calls<T, E>,
-    times: Times,
-    /// How many items are to be there at least.
-    least: usize,
+    settings: Builder<T, E>,
 }
 
 impl<T, E> LazyPool<T, E> {
@@ -100,7 +95,7 @@ impl<T, E> LazyPool<T, E> {
     /// Checks each free item before it is pulled, as [`check`](Builder::check) of a builder says.
     #[must_use]
     pub fn with_check(mut self, check: impl Fn(&mut T) -> bool + Send + Sync + 'static) -> Self {
-        self.calls.check = Some(Box::new(check));
+        self.settings.check = Some(Box::new(check));
         self.places.signs().mind();
         self
     }
@@ -179,6 +174,59 @@ impl<T, E> LazyPool<T, E> {
         self.pull_timeout(time).map(|guard| guard.owned(self))
     }
 
+    /// Gives this item to the pool, at a place that is empty, and returns its guard. `init` isn't
+    /// called.
+    ///
+    /// # Errors
+    ///
+    /// The item, if no place was empty at one moment, or if the pool is closed.
+    ///
+    /// # Examples
+    ///
+    /// ```
+    /// # use kundratu_pool::LazyPool;
+    /// let pool = LazyPool::<u32, ()>::new(1, || Err(()), |_| true)?;
+    /// assert!(pool.attach(7).is_ok());
+    /// assert_eq!(pool.attach(8).err(), Some(8));
+    /// assert_eq!(pool.try_pull().as_deref(), Some(&7));
+    /// # Ok::<(), kundratu_pool::NewError>(())
+    /// ```
+    pub fn attach(&self, item: T) -> Result<LazyReusable<'_, T, E>, T> {
+        let empty = (!self.is_closed()).then(|| Held::empty(self)).flatten();
+        let Some(mut held) = empty else { return Err(item) };
+        self.put(&mut held, item);
+        Ok(held.guard())
+    }
+
+    /// Makes items until so many are made, or no place is empty. Those that are made are counted at
+    /// its beginning.
+    ///
+    /// # Errors
+    ///
+    /// `Init` at the first error of `init`, or `Closed`.
+    pub fn fill(&self, items: usize) -> Result<(), PullError<E>> {
+        for _ in self.places.made()..items.min(self.places.count()) {
+            if self.is_closed() {
+                return Err(PullError::Closed);
+            }
+            let Some(mut held) = Held::empty(self) else { break };
+            self.make(&mut held, None)?;
+        }
+        Ok(())
+    }
+
+    /// Makes items, or fails, as [`fill`](LazyPool::fill) does, until the
+    /// [least](Builder::least) number is made.
+    pub fn fill_least(&self) -> Result<(), PullError<E>> {
+        self.fill(self.settings.least)
+    }
+
+    /// Drops the items that are free. Their places are empty then.
+    pub fn clear(&self) {
+        let free = (0..self.places.count()).map_while(|_| Held::made(self));
+        free.for_each(|mut held| drop(held.entry().item.take()));
+    }
+
     /// Closes the pool. From now on its pulls fail, also those that wait. The items that are free
     /// are dropped, and those in use when they come back.
     pub fn close(&self) {
@@ -197,8 +245,7 @@ impl<T, E> LazyPool<T, E> {
     pub fn status(&self) -> Status {
         let places = &self.places;
         let counts = Status::new([places.count(), places.made(), places.in_use()]);
-        let waiting = places.signs().load().waiting();
-        Status { waiting, ..counts }
+        Status { waiting: places.signs().load().waiting(), ..counts }
     }
 
     /// Ends the pool, and returns its items.
@@ -220,7 +267,7 @@ impl<T, E> LazyPool<T, E> {
     }
 
     fn emit(&self, event: Event) {
-        if let Some(call) = &self.calls.on_event {
+        if let Some(call) = &self.settings.on_event {
             call(event);
         }
     }
@@ -236,8 +283,8 @@ impl<T, E> LazyPool<T, E> {
 
     /// Returns whether a place has an item that is kept: not too old, and by the check.
     fn is_kept(&self, held: &mut Held<'_, T, E>) -> bool {
-        let is_over = self.times.is_over(held.entry());
-        let check = |item: &mut T| self.calls.check.as_ref().is_none_or(|check| check(item));
+        let is_over = self.settings.times.is_over(held.entry());
+        let check = |item: &mut T| self.settings.check.as_ref().is_none_or(|check| check(item));
         keep_if(&mut held.entry().item, |item| !is_over && check(item))
     }
 
@@ -262,7 +309,7 @@ impl<T, E> LazyPool<T, E> {
         if left(limit).is_zero() {
             return Err(PullError::TimedOut);
         }
-        self.put_made(held, (self.calls.init)())
+        self.put_made(held, (self.settings.init)())
     }
 
     /// Puts what an initializer made to a place that is empty.
@@ -275,7 +322,7 @@ impl<T, E> LazyPool<T, E> {
 
     fn put(&self, held: &mut Held<'_, T, E>, item: T) {
         held.entry().item = Some(item);
-        self.times.made(held.entry());
+        self.settings.times.made(held.entry());
     }
 }
 

@@ -63,12 +63,8 @@ impl<T> LinearObjectPool<T> {
         R: Fn(&mut T) + Send + Sync + 'static,
         I: Fn() -> T + Clone + Send + Sync + 'static,
     {
-        LinearObjectPool {
-            places: Arc::new(Growing::new()),
-            parts: Parts::new(),
-            init: Box::new(init),
-            reset: Box::new(reset),
-        }
+        let (places, parts) = (Arc::new(Growing::new()), Parts::new());
+        LinearObjectPool { places, parts, init: Box::new(init), reset: Box::new(reset) }
     }
 
     /// Returns an item that was free, or a new one.
@@ -105,31 +101,25 @@ impl<T> LinearObjectPool<T> {
     #[inline(always)]
     fn find(&self, pulled: Option<PulledPlace>) -> Held {
         let pulled = pulled.unwrap_or_else(|| self.pull_far());
+        let at = pulled.at;
         // SAFETY: the place was pulled, and nobody else has it.
-        let value = unsafe { &mut *self.slot(pulled.at) };
-        let item = NonNull::from(&mut *value).cast();
+        let value = unsafe { &mut *self.slot(at) };
         // New memory isn't read before it is written: each would be a fault of its own.
-        let at = match pulled.is_made {
-            true => pulled.at,
-            false => self.make_item(pulled, value),
-        };
-        Held { at, item }
+        if !pulled.is_made {
+            self.make_item(pulled, value);
+        }
+        Held { at, item: NonNull::from(value).cast() }
     }
 
     /// Makes the item of a place that was pulled. If that panics, the place is left to a later pull
     /// that makes one.
     #[cold]
-    fn make_item(&self, pulled: PulledPlace, value: &mut Item<T>) -> usize {
-        let at = pulled.at;
-        let bare = AtEnd(Some(pulled), |pulled| {
-            // SAFETY: the place is of this pool.
-            let leave = |pulled| unsafe { self.places.leave_bare(pulled) };
-            pulled.take().into_iter().for_each(leave);
-        });
+    fn make_item(&self, pulled: PulledPlace, value: &mut Item<T>) {
+        // SAFETY: the place is of this pool, and the right to it ends here.
+        let bare = AtEnd(pulled, |pulled| unsafe { self.places.leave_bare(pulled.at) });
         value.item.write((self.init)());
+        value.after = bare.0.at + 1;
         mem::forget(bare);
-        value.after = at + 1;
-        at
     }
 
     /// Pulls a place of any part. One is made if there is none.
@@ -147,8 +137,7 @@ impl<T> LinearObjectPool<T> {
     #[inline(always)]
     fn slot(&self, at: usize) -> *mut Item<T> {
         let (name, place) = PartName::of(at);
-        let part = self.parts.get(name);
-        part.unwrap_or_else(|| refuse()).at(place)
+        self.parts.get(name).unwrap_or_else(|| refuse()).at(place)
     }
 
     /// How many places the first part of a shard has: of great items few, since they have their
@@ -186,13 +175,11 @@ unsafe impl<T> Source for LinearObjectPool<T> {
         at.0.as_ptr()
     }
 
-    #[inline(always)]
     fn item(value: &Item<T>) -> &T {
         // SAFETY: a place that is held has its item.
         unsafe { value.item.assume_init_ref() }
     }
 
-    #[inline(always)]
     fn item_mut(value: &mut Item<T>) -> &mut T {
         // SAFETY: a place that is held has its item.
         unsafe { value.item.assume_init_mut() }

@@ -3,7 +3,7 @@ use crate::pools::guard::{Guard, Source};
 use crate::{library::Place, places::fixed::Fixed, places::slots::Slots};
 use crate::{pools::or_else::OrElse, status::Status};
 use std::fmt::{self, Debug, Display, Formatter};
-use std::{collections::TryReserveError, error::Error, iter, ops::Deref, sync::Arc};
+use std::{collections::TryReserveError, error::Error, ops::Deref, sync::Arc};
 
 /// A reset of any closure.
 pub type Reset<T> = Box<dyn Fn(&mut T) + Send + Sync>;
@@ -54,12 +54,8 @@ impl<T, R: Fn(&mut T)> Pool<T, R> {
     /// # Ok::<(), kundratu_pool::NewError>(())
     /// ```
     pub fn with_reset(items: usize, init: impl FnMut() -> T, reset: R) -> Result<Self, NewError> {
-        let values = iter::repeat_with(init).take(items);
-        Ok(Pool {
-            items: Slots::new(values).ok_or(NewError::Memory)?,
-            places: Fixed::new(items)?,
-            reset,
-        })
+        let slots = Slots::new(items, init).ok_or(NewError::Memory)?;
+        Ok(Pool { items: slots, places: Fixed::new(items)?, reset })
     }
 
     /// Returns an item that was free. `None` if all were held at one moment of the call.
@@ -127,12 +123,10 @@ unsafe impl<T, R: Fn(&mut T)> Source for Pool<T, R> {
         self.items.at(at.number())
     }
 
-    #[inline(always)]
     fn item(value: &T) -> &T {
         value
     }
 
-    #[inline(always)]
     fn item_mut(value: &mut T) -> &mut T {
         value
     }

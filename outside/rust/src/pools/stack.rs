@@ -108,8 +108,7 @@ impl<T, S: Stack<T>> StackObjectPool<T, S> {
 impl<T, S: Stack<T>, P: Deref<Target = StackObjectPool<T, S>>> StackGuard<T, S, P> {
     /// Creates the guard of a value, which goes to the pool at the guard's end.
     pub fn new(pool: P, data: ManuallyDrop<T>) -> Self {
-        let data = Some(ManuallyDrop::into_inner(data));
-        StackGuard { pool, data }
+        StackGuard { pool, data: Some(ManuallyDrop::into_inner(data)) }
     }
 }
 

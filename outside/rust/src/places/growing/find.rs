@@ -2,8 +2,7 @@
 use super::thread_slot::{Mine, Way};
 use super::{Growing, PartName, PulledPlace};
 use crate::atomics::{Ordering::Relaxed, Ordering::SeqCst};
-use crate::library::calls::PAGE;
-use std::sync::PoisonError;
+use crate::{library::calls::PAGE, lock};
 
 /// How often all parts are looked at before a fresh place is given, if others return places.
 const ROUNDS: usize = 32;
@@ -23,7 +22,7 @@ impl Growing {
         let way = &mut *mine.way()?;
         let is_none_returned = self.changes_since_none(way).is_none();
         let pulled = is_none_returned.then(|| self.unmade(way).ok()).flatten()?;
-        self.count(Some(mine), 1);
+        self.thread_slots.count(Some(mine), 1);
         Some(pulled)
     }
 
@@ -86,21 +85,17 @@ impl Growing {
     ///
     /// # Safety
     ///
-    /// The place is of this pool.
+    /// The place was pulled of this pool, and nobody has it any more.
     #[cold]
-    pub(crate) unsafe fn leave_bare(&self, place: PulledPlace) {
-        self.news.0.pulled.add(-1);
-        self.with_bare(|bare| {
-            if bare.try_reserve(1).is_ok() {
-                bare.push(place.at);
-            }
-        });
+    pub(crate) unsafe fn leave_bare(&self, at: usize) {
+        self.thread_slots.count(None, -1);
+        self.with_bare(|bare| bare.try_reserve(1).is_ok().then(|| bare.push(at)));
     }
 
     /// Makes this call with the places that have no items, and counts them.
     fn with_bare<A>(&self, call: impl FnOnce(&mut Vec<usize>) -> A) -> A {
         let news = &self.news.0;
-        let mut bare = news.bare.lock().unwrap_or_else(PoisonError::into_inner);
+        let mut bare = lock(&news.bare);
         let answer = call(&mut bare);
         news.bare_count.store(bare.len(), Relaxed);
         answer

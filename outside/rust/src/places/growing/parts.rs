@@ -13,34 +13,26 @@ const TABLE: usize = 32;
 const DOUBLING: usize = 6;
 
 /// A part of a pool, by a number of which each value names one.
-#[derive(Clone, Copy, PartialEq, Eq)]
+#[derive(Clone, Copy, Default)]
 pub(crate) struct PartName(pub(super) usize);
 
 impl PartName {
     const ALL: usize = 1_024;
-
-    /// Names a part of a shard. `None` if there are too many.
-    pub(super) fn new(shard: usize, part: usize) -> Option<PartName> {
-        (part < PARTS).then_some(PartName(part * SHARDS + shard))
-    }
 
     pub(super) fn first(shard: usize) -> PartName {
         PartName(shard % SHARDS)
     }
 
     /// Names the part of a place, and the place in it.
-    #[inline(always)]
     pub(crate) fn of(at: usize) -> (PartName, usize) {
         (PartName(at % Self::ALL), at / Self::ALL)
     }
 
-    #[inline(always)]
     pub(super) fn shard(self) -> usize {
         self.0 % SHARDS
     }
 
     /// Returns which of its shard's parts it is.
-    #[inline(always)]
     fn part(self) -> usize {
         self.0 / SHARDS
     }
@@ -52,20 +44,18 @@ impl PartName {
 
     /// Names the next part of the shard. `None` if there are too many.
     pub(super) fn next(self) -> Option<PartName> {
-        PartName::new(self.shard(), self.part() + 1)
+        let next = PartName(self.0 + SHARDS);
+        (next.part() < PARTS).then_some(next)
     }
 
     /// Returns what stands for this place in a part of this name.
-    #[inline(always)]
     pub(super) fn at(self, place: usize) -> usize {
         place * Self::ALL + self.0
     }
 
     /// Takes over the right to a place that was returned to the part of this name.
-    #[inline(always)]
     pub(super) fn pulled(self, place: Place) -> PulledPlace {
-        let (at, is_made) = (self.at(place.number()), true);
-        PulledPlace { at, is_made }
+        PulledPlace { at: self.at(place.number()), is_made: true }
     }
 }
 
@@ -107,13 +97,11 @@ impl<P> Parts<P> {
 
     /// Returns all parts, those of this shard first.
     pub(super) fn all(&self, home: usize) -> impl Iterator<Item = (PartName, &P)> {
-        (0..SHARDS).flat_map(move |step| self.shard((home + step) % SHARDS))
-    }
-
-    fn shard(&self, shard: usize) -> impl Iterator<Item = (PartName, &P)> {
-        let tables = self.0[shard].iter().map_while(OnceBox::get);
-        let parts = tables.flatten().map_while(OnceBox::get).enumerate();
-        parts.filter_map(move |(part, made)| Some((PartName::new(shard, part)?, made)))
+        (0..SHARDS).map(move |step| (home + step) % SHARDS).flat_map(|shard| {
+            let tables = self.0[shard].iter().map_while(OnceBox::get);
+            let parts = tables.flatten().map_while(OnceBox::get).enumerate();
+            parts.map(move |(part, made)| (PartName(part * SHARDS + shard), made))
+        })
     }
 }
 
@@ -126,8 +114,7 @@ pub(super) struct Part {
 impl Part {
     /// Creates so many places, which are held. `None` if memory is refused.
     pub(super) fn new(places: usize) -> Option<Part> {
-        let (library, fresh) = (Library::held(places)?, AtomicUsize::new(0));
-        Some(Part { library, fresh })
+        Some(Part { library: Library::held(places)?, fresh: AtomicUsize::new(0) })
     }
 
     pub(super) fn pages(&self) -> usize {

@@ -1,8 +1,7 @@
 //! What a thread has of a pool that grows: the places that it keeps, and its way to others.
 use super::{Held, PartName};
 use crate::library::{Library, OwnHandle};
-use crate::status::Pulled;
-use crate::threads::{Number, Owned};
+use crate::threads::{slots, Number};
 use std::cell::{Cell, RefCell, RefMut};
 use std::sync::atomic::{AtomicUsize, Ordering::Relaxed};
 
@@ -18,15 +17,8 @@ const APART: usize = 17;
 const PULLS: u16 = 1_024;
 const RETURNS: u16 = 1_024;
 
-/// What a thread has of a pool. Others read its counts.
-pub(super) struct ThreadSlot {
-    kept: AtomicUsize,
-    pub(super) pulled: Pulled,
-    own: Owned<Own>,
-}
-
-/// What other threads don't reach.
-struct Own {
+/// What a thread has that others don't reach.
+pub(super) struct Own {
     /// The places that it keeps. The one that was returned last comes last.
     kept: [Cell<Option<Held>>; KEPT],
     /// How often it pulled since its last return, and returned since its last pull, but what it kept.
@@ -35,14 +27,12 @@ struct Own {
     way: RefCell<Way>,
 }
 
-/// The slot of the thread that calls.
-#[derive(Clone, Copy)]
-pub(super) struct Mine<'s> {
-    pub(super) slot: &'s ThreadSlot,
-    own: &'s Own,
-}
+/// The slots of threads. Others see of a thread how many places it keeps.
+pub(super) type ThreadSlots = slots::ThreadSlots<AtomicUsize, Own>;
+pub(super) type Mine<'s> = slots::Mine<'s, AtomicUsize, Own>;
 
 /// How a thread comes to places that it doesn't keep.
+#[derive(Default)]
 pub(super) struct Way {
     /// The part of the last pull, where the next one looks first, and the page where that begins.
     pub(super) part: Option<PartName>,
@@ -60,33 +50,22 @@ pub(super) struct Way {
     none: OwnHandle,
 }
 
-impl ThreadSlot {
-    pub(super) fn new(number: &Number) -> ThreadSlot {
-        let own = Own {
-            kept: [const { Cell::new(None) }; KEPT],
-            pulls: Cell::new(0),
-            returns: Cell::new(0),
-            way: RefCell::new(Way::new(PartName::first(number.get()), true)),
-        };
-        ThreadSlot {
-            kept: AtomicUsize::new(UNUSED),
-            pulled: Pulled::default(),
-            own: Owned::new(number, own),
-        }
+impl ThreadSlots {
+    /// Returns a thread's slot, which is made if it isn't there. `None` if memory is refused.
+    pub(super) fn get_or_make<'s>(&'s self, number: &'s Number) -> Option<Mine<'s>> {
+        self.get(number).or_else(|| {
+            let way = RefCell::new(Way::new(PartName::first(number.get()), true));
+            let [pulls, returns] = Default::default();
+            let own = Own { kept: Default::default(), pulls, returns, way };
+            self.make(number, AtomicUsize::new(UNUSED), own)?;
+            self.get(number)
+        })
     }
 
-    #[inline(always)]
-    pub(super) fn mine<'s>(&'s self, number: &'s Number) -> Mine<'s> {
-        let (slot, own) = (self, self.own.get(number));
-        Mine { slot, own }
-    }
-
-    /// Returns how many places the thread keeps.
+    /// Returns how many places threads keep.
     pub(super) fn kept(&self) -> usize {
-        match self.kept.load(Relaxed) {
-            UNUSED => 0,
-            kept => kept,
-        }
+        let kept = self.all().map(|slot| slot.kept.load(Relaxed));
+        kept.filter(|kept| *kept != UNUSED).sum()
     }
 }
 
@@ -104,9 +83,8 @@ impl<'s> Mine<'s> {
     /// Begins the work of a thread, whose end returns what it keeps here.
     pub(super) fn begin(self) {
         self.set_count(0);
-        for count in [&self.own.pulls, &self.own.returns] {
-            count.set(0);
-        }
+        let counts = [&self.own().pulls, &self.own().returns];
+        counts.into_iter().for_each(|count| count.set(0));
     }
 
     pub(super) fn end(self) {
@@ -114,7 +92,6 @@ impl<'s> Mine<'s> {
     }
 
     /// Whether the thread's end returns what it keeps here.
-    #[inline(always)]
     pub(super) fn is_noted(self) -> bool {
         self.count() != UNUSED
     }
@@ -123,9 +100,7 @@ impl<'s> Mine<'s> {
     #[inline(always)]
     pub(super) fn keep(self, held: Held) -> Result<(), Held> {
         let count = self.count();
-        let Some(room) = self.own.kept.get(count) else {
-            return Err(held);
-        };
+        let Some(room) = self.own().kept.get(count) else { return Err(held) };
         room.set(Some(held));
         self.set_count(count + 1);
         Ok(())
@@ -135,13 +110,12 @@ impl<'s> Mine<'s> {
     #[inline(always)]
     pub(super) fn take(self) -> Option<Held> {
         let count = self.count().wrapping_sub(1);
-        let held = self.own.kept.get(count)?.take();
+        let held = self.own().kept.get(count)?.take();
         self.set_count(count);
         held
     }
 
     /// Whether there is room for more than one place.
-    #[inline(always)]
     pub(super) fn has_room(self) -> bool {
         self.count() + 1 < KEPT
     }
@@ -149,28 +123,25 @@ impl<'s> Mine<'s> {
     /// Borrows the thread's way, if no call within a call has it.
     #[inline(always)]
     pub(super) fn way(self) -> Option<RefMut<'s, Way>> {
-        self.own.way.try_borrow_mut().ok()
+        self.own().way.try_borrow_mut().ok()
     }
 
-    #[inline(always)]
     pub(super) fn only_pulls(self) -> bool {
-        self.own.pulls.get() >= PULLS
+        self.own().pulls.get() >= PULLS
     }
 
     /// Counts the pull of a place that wasn't kept.
-    #[inline(always)]
     pub(super) fn count_pull(self) {
-        let pulls = &self.own.pulls;
+        let pulls = &self.own().pulls;
         pulls.set(pulls.get().saturating_add(1));
-        self.own.returns.set(0);
+        self.own().returns.set(0);
     }
 
     /// Counts the return of a place that isn't kept. Tells whether the thread only returns places.
-    #[inline(always)]
     pub(super) fn count_return(self) -> bool {
-        let returns = self.own.returns.get().saturating_add(1);
-        self.own.returns.set(returns);
-        self.own.pulls.set(0);
+        let returns = self.own().returns.get().saturating_add(1);
+        self.own().returns.set(returns);
+        self.own().pulls.set(0);
         returns >= RETURNS
     }
 }
@@ -178,21 +149,11 @@ impl<'s> Mine<'s> {
 impl Way {
     /// Creates the way of a thread of this shard, and whether it opens handles.
     pub(super) fn new(last: PartName, opens: bool) -> Way {
-        Way {
-            part: None,
-            page: 0,
-            changes_at_none: None,
-            last,
-            left: TOGETHER,
-            handles: Vec::new(),
-            opens,
-            none: None,
-        }
+        Way { last, left: TOGETHER, opens, ..Way::default() }
     }
 
     /// Finds where the next pull begins, after one of a place of this page. The pages are as many as
     /// a power of two, or none.
-    #[inline(always)]
     pub(super) fn go_on(&mut self, page: usize, pages: usize) {
         if page != self.page || self.left <= 1 {
             self.left = TOGETHER;

@@ -67,10 +67,13 @@ pub struct BuilderOf<T, E> {
 #[must_use]
 pub struct Builder<T, E> {
     items: usize,
-    pub(super) calls: Calls<T, E>,
     order: Order,
-    times: Times,
-    least: usize,
+    pub(super) init: Box<dyn Fn() -> Result<T, E> + Send + Sync>,
+    pub(super) reset: Judge<T>,
+    pub(super) check: Option<Judge<T>>,
+    pub(super) on_event: Option<Box<dyn Fn(Event) + Send + Sync>>,
+    pub(super) times: Times,
+    pub(super) least: usize,
 }
 
 /// What happened in a [`LazyPool`], as [`on_event`](Builder::on_event) tells it.
@@ -87,31 +90,20 @@ pub enum Event {
     Waits,
 }
 
-/// What a pool calls.
-pub(super) struct Calls<T, E> {
-    pub(super) init: Box<dyn Fn() -> Result<T, E> + Send + Sync>,
-    pub(super) reset: Judge<T>,
-    pub(super) check: Option<Judge<T>>,
-    pub(super) on_event: Option<Box<dyn Fn(Event) + Send + Sync>>,
-}
-
 impl<T, E> BuilderOf<T, E> {
     pub(super) fn new(items: usize) -> Self {
-        let made = PhantomData;
-        BuilderOf { items, made }
+        BuilderOf { items, made: PhantomData }
     }
 
     /// Makes each item by this closure.
     pub fn init(self, init: impl Fn() -> Result<T, E> + Send + Sync + 'static) -> Builder<T, E> {
         Builder {
             items: self.items,
-            calls: Calls {
-                init: Box::new(init),
-                reset: Box::new(|_| true),
-                check: None,
-                on_event: None,
-            },
             order: Order::ANY,
+            init: Box::new(init),
+            reset: Box::new(|_| true),
+            check: None,
+            on_event: None,
             times: Times::default(),
             least: 0,
         }
@@ -130,14 +122,14 @@ impl<T, E> BuilderOf<T, E> {
 impl<T, E> Builder<T, E> {
     /// Calls this on each item as it comes back. It returns whether the item is kept.
     pub fn reset(mut self, reset: impl Fn(&mut T) -> bool + Send + Sync + 'static) -> Self {
-        self.calls.reset = Box::new(reset);
+        self.reset = Box::new(reset);
         self
     }
 
     /// Checks each free item before it is pulled. If the check returns `false`, the item is
     /// dropped, and the pull makes another one in its place.
     pub fn check(mut self, check: impl Fn(&mut T) -> bool + Send + Sync + 'static) -> Self {
-        self.calls.check = Some(Box::new(check));
+        self.check = Some(Box::new(check));
         self
     }
 
@@ -173,7 +165,7 @@ impl<T, E> Builder<T, E> {
 
     /// Calls this at each [`Event`], under no lock of the pool.
     pub fn on_event(mut self, call: impl Fn(Event) + Send + Sync + 'static) -> Self {
-        self.calls.on_event = Some(Box::new(call));
+        self.on_event = Some(Box::new(call));
         self
     }
 
@@ -184,17 +176,11 @@ impl<T, E> Builder<T, E> {
     /// `NoItems` if there are none, or `Memory`, also if they are 2^32 or more.
     pub fn build(self) -> Result<LazyPool<T, E>, NewError> {
         let places = Places::new(self.items, self.order)?;
-        let slots = Slots::new((0..self.items).map(|_| Entry::EMPTY));
-        if self.calls.check.is_some() || self.calls.on_event.is_some() || self.times.minds() {
+        let items = Slots::new(self.items, || Entry::EMPTY);
+        if self.check.is_some() || self.on_event.is_some() || self.times.minds() {
             places.signs().mind();
         }
-        Ok(LazyPool {
-            items: slots.ok_or(NewError::Memory)?,
-            places,
-            calls: self.calls,
-            times: self.times,
-            least: self.least,
-        })
+        Ok(LazyPool { items: items.ok_or(NewError::Memory)?, places, settings: self })
     }
 }
 

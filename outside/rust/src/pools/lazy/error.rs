@@ -31,9 +31,7 @@ pub enum PullError<E> {
 /// is any error that is shown, and `?` turns each into a `Box<dyn Error>`.
 impl<E: Debug + Display + 'static> Error for PullError<E> {
     fn source(&self) -> Option<&(dyn Error + 'static)> {
-        let PullError::Init(error) = self else {
-            return None;
-        };
+        let PullError::Init(error) = self else { return None };
         let error: &dyn Any = error;
         match error.downcast_ref::<Box<dyn Error + Send + Sync>>() {
             Some(error) => error.source(),

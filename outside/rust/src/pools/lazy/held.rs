@@ -19,14 +19,12 @@ impl<'p, T, E> Held<'p, T, E> {
     /// Pulls a place with an item. `None` if there was none at one moment.
     #[inline(always)]
     pub(super) fn made(pool: &'p LazyPool<T, E>) -> Option<Self> {
-        let place = pool.places.made.pull()?;
-        Some(Held { pool, place })
+        Some(Held { pool, place: pool.places.made.pull()? })
     }
 
     /// Pulls an empty place. `None` if there was none at one moment.
     pub(super) fn empty(pool: &'p LazyPool<T, E>) -> Option<Self> {
-        let place = pool.places.pull_empty()?;
-        Some(Held { pool, place })
+        Some(Held { pool, place: pool.places.pull_empty()? })
     }
 
     /// Pulls an item, if the pool has nothing else to mind.
@@ -106,9 +104,9 @@ unsafe impl<T, E> Source for LazyPool<T, E> {
         let mut held = Held { pool: self, place };
         let entry = held.entry();
         let is_plain = !self.places.signs().load().has(CLOSED | MINDS);
-        let may_stay = is_plain || (!self.is_closed() && !self.times.is_past(entry));
-        if keep_if(&mut entry.item, |item| may_stay && (self.calls.reset)(item)) && !is_plain {
-            self.times.came(entry);
+        let may_stay = is_plain || (!self.is_closed() && !self.settings.times.is_past(entry));
+        if keep_if(&mut entry.item, |item| may_stay && (self.settings.reset)(item)) && !is_plain {
+            self.settings.times.came(entry);
         }
     }
 }

@@ -100,15 +100,13 @@ impl<T, E> LazyPool<T, E> {
     /// # Ok::<(), kundratu_pool::NewError>(())
     /// ```
     pub fn retain(&self, mut is_kept: impl FnMut(&mut T, Duration) -> bool) -> usize {
-        let now = self.times.begin();
+        let now = self.settings.times.begin();
         self.places.signs().mind();
         let (mut kept, mut dropped) = (Vec::new(), 0);
         // The last of them has no room to be kept if memory is refused.
         while kept.try_reserve(1).is_ok() {
-            let Some(mut held) = Held::made(self) else {
-                break;
-            };
-            let idle = self.times.idle(held.entry(), now);
+            let Some(mut held) = Held::made(self) else { break };
+            let idle = self.settings.times.idle(held.entry(), now);
             if keep_if(&mut held.entry().item, |item| is_kept(item, idle)) {
                 kept.push(held);
             } else {
@@ -122,6 +120,6 @@ impl<T, E> LazyPool<T, E> {
     /// named. Returns how many it dropped. How long they were free is noted as by
     /// [`retain`](LazyPool::retain).
     pub fn clear_idle(&self, time: Duration) -> usize {
-        self.retain(|_, idle| idle < time || self.places.made() <= self.least)
+        self.retain(|_, idle| idle < time || self.places.made() <= self.settings.least)
     }
 }

@@ -86,6 +86,7 @@ impl Places {
     }
 
     /// Pulls an empty place. `None` if there was none at one moment.
+    #[inline(always)]
     pub(super) fn pull_empty(&self) -> Option<Place> {
         self.empties.take().then_some(())?;
         // One is free if it was counted. A look that misses it is made again.
@@ -173,7 +174,7 @@ impl Places {
             self.signs().made_came();
         }
         if self.queue.is_awaited() {
-            self.queue.hand(self.signs(), || self.any_later());
+            self.hand();
         }
         if signs.waiting() > 0 && !self.is_fair() {
             self.waiters.wake();

@@ -1,10 +1,8 @@
 //! Who waits for a place of a lazy pool in turn: tasks, and in a fair pool threads too.
-use super::places::{Any, Closed};
-use super::signs::Signs;
-use crate::library::Place;
+use super::places::{Any, Closed, Places};
+use crate::{library::Place, lock};
 use std::sync::atomic::{AtomicU64, AtomicUsize, Ordering::SeqCst};
-use std::sync::{Mutex, MutexGuard, PoisonError};
-use std::{collections::VecDeque, task::Waker, thread::Thread};
+use std::{collections::VecDeque, sync::Mutex, task::Waker, thread::Thread};
 
 pub(super) enum Wake {
     Thread(Thread),
@@ -45,8 +43,7 @@ struct Waiter {
 
 impl Line {
     fn index(&self, ticket: u64) -> Option<usize> {
-        let all = &self.all;
-        all.binary_search_by_key(&ticket, |waiter| waiter.ticket).ok()
+        self.all.binary_search_by_key(&ticket, |waiter| waiter.ticket).ok()
     }
 
     fn remove(&mut self, ticket: u64) -> Option<Waiter> {
@@ -57,61 +54,8 @@ impl Line {
 }
 
 impl Queue {
-    fn lock(&self) -> MutexGuard<'_, Line> {
-        self.line.lock().unwrap_or_else(PoisonError::into_inner)
-    }
-
     pub(super) fn is_awaited(&self) -> bool {
         self.waiting.load(SeqCst) != 0
-    }
-
-    /// Comes last, and returns the ticket. The first one looks for a place. `None` if memory is refused.
-    pub(super) fn enter(
-        &self,
-        signs: &Signs,
-        wake: Wake,
-        look: impl FnOnce() -> Any,
-    ) -> Option<u64> {
-        let mut line = self.lock();
-        line.all.try_reserve(1).ok()?;
-        line.last += 1;
-        let (ticket, place, wake) = (line.last, None, Some(wake));
-        line.all.push_back(Waiter { ticket, place, wake });
-        self.waiting.fetch_add(1, SeqCst);
-        signs.enter();
-        let is_first = line.served + 1 == line.all.len();
-        let own = is_first.then(|| self.hand_first(&mut line, signs, look));
-        drop((line, own)); // what would wake it is dropped after the lock
-        Some(ticket)
-    }
-
-    /// Hands a place to the first one that has none, and wakes it, if this finds a place.
-    pub(super) fn hand(&self, signs: &Signs, look: impl FnOnce() -> Any) {
-        let mut line = self.lock();
-        let wake = self.hand_first(&mut line, signs, look);
-        drop(line);
-        wake.into_iter().for_each(Wake::wake);
-    }
-
-    /// Hands a place as `hand` does, and returns what wakes who has it.
-    fn hand_first(
-        &self,
-        line: &mut Line,
-        signs: &Signs,
-        look: impl FnOnce() -> Any,
-    ) -> Option<Wake> {
-        let served = line.served;
-        let first = line.all.get_mut(served)?;
-        first.place = Some(look()?.ok()?);
-        self.count_off(signs);
-        self.served.store(first.ticket, SeqCst);
-        line.served += 1;
-        first.wake.take()
-    }
-
-    fn count_off(&self, signs: &Signs) {
-        self.waiting.fetch_sub(1, SeqCst);
-        signs.leave();
     }
 
     /// Returns whether who has this ticket was handed a place, if it didn't leave.
@@ -124,15 +68,66 @@ impl Queue {
         ticket.saturating_sub(self.served.load(SeqCst))
     }
 
+    pub(super) fn wake_all(&self) {
+        let mut after = 0;
+        loop {
+            let mut line = lock(&self.line);
+            let index = line.all.partition_point(|waiter| waiter.ticket <= after);
+            let Some(waiter) = line.all.get_mut(index) else { return };
+            let wake = waiter.wake.take();
+            after = waiter.ticket;
+            drop(line);
+            wake.into_iter().for_each(Wake::wake);
+        }
+    }
+}
+
+impl Places {
+    /// Comes last, and returns the ticket. The first one looks for a place. `None` if memory is refused.
+    pub(super) fn enter(&self, wake: Wake) -> Option<u64> {
+        let mut line = lock(&self.queue.line);
+        line.all.try_reserve(1).ok()?;
+        line.last += 1;
+        let (ticket, place, wake) = (line.last, None, Some(wake));
+        line.all.push_back(Waiter { ticket, place, wake });
+        self.queue.waiting.fetch_add(1, SeqCst);
+        self.signs().enter();
+        let is_first = line.served + 1 == line.all.len();
+        let own = is_first.then(|| self.hand_first(&mut line));
+        drop((line, own)); // what would wake it is dropped after the lock
+        Some(ticket)
+    }
+
+    /// Hands a place to the first one that has none, and wakes it, if a place is free.
+    pub(super) fn hand(&self) {
+        let wake = self.hand_first(&mut lock(&self.queue.line));
+        wake.into_iter().for_each(Wake::wake);
+    }
+
+    /// Hands a place as `hand` does, and returns what wakes who has it.
+    fn hand_first(&self, line: &mut Line) -> Option<Wake> {
+        let first = line.all.get_mut(line.served)?;
+        first.place = Some(self.any_later()?.ok()?);
+        self.count_off();
+        self.queue.served.store(first.ticket, SeqCst);
+        line.served += 1;
+        first.wake.take()
+    }
+
+    fn count_off(&self) {
+        self.queue.waiting.fetch_sub(1, SeqCst);
+        self.signs().leave();
+    }
+
     /// Takes the place that was handed to this ticket, or leaves a closed pool, or is woken so later.
-    pub(super) fn take(&self, signs: &Signs, ticket: u64, wake: Option<Wake>) -> Any {
-        let mut line = self.lock();
-        if self.is_served(ticket) {
+    pub(super) fn take(&self, ticket: u64, wake: Option<Wake>) -> Any {
+        let mut line = lock(&self.queue.line);
+        if self.queue.is_served(ticket) {
             return line.remove(ticket)?.place.map(Ok);
         }
-        if signs.load().is_closed() {
+        if self.signs().load().is_closed() {
             let waiter = line.remove(ticket);
-            self.count_off(signs);
+            self.count_off();
             drop((line, waiter));
             return Some(Err(Closed));
         }
@@ -143,28 +138,13 @@ impl Queue {
     }
 
     /// Leaves the queue. Returns the place that was handed to this ticket.
-    pub(super) fn leave(&self, signs: &Signs, ticket: u64) -> Option<Place> {
-        let mut line = self.lock();
+    pub(super) fn leave(&self, ticket: u64) -> Option<Place> {
+        let mut line = lock(&self.queue.line);
         let waiter = line.remove(ticket)?;
         if waiter.place.is_none() {
-            self.count_off(signs);
+            self.count_off();
         }
         drop(line); // before what would wake it
         waiter.place
-    }
-
-    pub(super) fn wake_all(&self) {
-        let mut after = 0;
-        loop {
-            let mut line = self.lock();
-            let index = line.all.partition_point(|waiter| waiter.ticket <= after);
-            let Some(waiter) = line.all.get_mut(index) else {
-                return;
-            };
-            let wake = waiter.wake.take();
-            after = waiter.ticket;
-            drop(line);
-            wake.into_iter().for_each(Wake::wake);
-        }
     }
 }

@@ -88,7 +88,6 @@ impl Signs {
 
 impl Seen {
     /// Returns whether any of these is set.
-    #[inline(always)]
     pub(super) fn has(self, signs: u64) -> bool {
         self.0 & signs != 0
     }
@@ -98,7 +97,6 @@ impl Seen {
         self.0 & order.0 == MINDS
     }
 
-    #[inline(always)]
     pub(super) fn is_closed(self) -> bool {
         self.has(CLOSED)
     }

@@ -25,8 +25,7 @@ impl<T, E> LazyPool<T, E> {
     /// }
     /// ```
     pub async fn pull_async(&self) -> PullResult<'_, T, E> {
-        let held = Turn::new(self).await?;
-        self.item(held, None)
+        self.item(Turn::new(self).await?, None)
     }
 
     /// Pulls an item, or fails, as [`pull_async`](LazyPool::pull_async) does, with a guard that keeps

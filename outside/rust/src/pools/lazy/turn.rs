@@ -20,24 +20,18 @@ pub(super) struct Turn<'p, T, E> {
 impl<'p, T, E> Turn<'p, T, E> {
     /// Creates a pull that hasn't looked for a place yet.
     pub(super) fn new(pool: &'p LazyPool<T, E>) -> Self {
-        let ticket = None;
-        Turn { pool, ticket }
+        Turn { pool, ticket: None }
     }
 
     /// Comes last in the queue, if it isn't there. `None` if memory is refused.
     fn enter(&mut self, wake: impl FnOnce() -> Wake) -> Option<u64> {
-        if self.ticket.is_none() {
-            let places = &self.pool.places;
-            let look = || places.any_later();
-            self.ticket = places.queue.enter(places.signs(), wake(), look);
-        }
+        self.ticket = self.ticket.or_else(|| self.pool.places.enter(wake()));
         self.ticket
     }
 
     /// Returns the place that was handed to it, if one was. Else it is woken so from now on.
     fn take(&mut self, wake: Option<Wake>) -> Got<'p, T, E> {
-        let places = &self.pool.places;
-        let any = places.queue.take(places.signs(), self.ticket?, wake)?;
+        let any = self.pool.places.take(self.ticket?, wake)?;
         self.ticket = None;
         Held::of(self.pool, Some(any))
     }
@@ -98,9 +92,7 @@ impl<'p, T, E> Future for Turn<'p, T, E> {
 
 impl<T, E> Drop for Turn<'_, T, E> {
     fn drop(&mut self) {
-        let places = &self.pool.places;
-        let leave = |ticket| places.queue.leave(places.signs(), ticket);
-        let handed = self.ticket.and_then(leave);
+        let handed = self.ticket.and_then(|ticket| self.pool.places.leave(ticket));
         drop(Held::of(self.pool, handed.map(Ok)));
     }
 }

@@ -1,7 +1,8 @@
 //! Threads that wait until a place is returned: an event count of two words, and where they sleep.
 use super::signs::Signs;
+use crate::lock;
 use std::sync::atomic::{AtomicBool, AtomicUsize, Ordering::SeqCst};
-use std::sync::{Condvar, Mutex, PoisonError};
+use std::sync::{Condvar, Mutex};
 use std::time::{Duration, Instant};
 
 /// When a pull waits no longer, if ever.
@@ -44,7 +45,7 @@ impl Waiters {
 
     /// Sleeps until a return is told or the limit is over. Returns `false` if one was told since `seen`.
     fn sleep(&self, seen: usize, limit: Limit) -> bool {
-        let locked = self.lock.lock().unwrap_or_else(PoisonError::into_inner);
+        let locked = lock(&self.lock);
         self.asleep.fetch_add(1, SeqCst);
         if self.told.load(SeqCst) != seen {
             self.asleep.fetch_sub(1, SeqCst);
@@ -84,8 +85,7 @@ impl Waiters {
 
 /// Returns how long a pull may still wait.
 pub(super) fn left(limit: Limit) -> Duration {
-    let left = |limit: Instant| limit.saturating_duration_since(Instant::now());
-    limit.map_or(Duration::MAX, left)
+    limit.map_or(Duration::MAX, |limit| limit.saturating_duration_since(Instant::now()))
 }
 
 #[cfg(test)]
