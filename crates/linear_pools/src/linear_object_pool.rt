@@ -199,6 +199,7 @@ impl<T: Drop, I: Init<T, K>, R: Reset<T, K>, K: Clean<T>> LinearObjectPool<T, I,
     ///
     /// - `Limit` if each item of as many pages as the limit allows was seen in use in this call.
     /// - `Memory`, or `Init` at the first `None`, if it has to make a page. Then no page is linked.
+    #[inline(always)]
     pub fn pull(&self) -> Result<LinearReusable<'_, T, I, R, K>, PullError>
         ensures pool { IfOk result (λ item. item.pool ≡ self.now) }
         ensures opening { IfOk result (λ item. item.opening ≡ item.item.opening) }
