@@ -1,5 +1,10 @@
-//! Tests of the linear pool and the fixed pool, of what makes and resets the values of a pool, and
-//! of items that go over channels.
+//! Tests of the facade: what goes through kinds of pool, core, player, world and buffer pool in one
+//! way, and what is told of the linear pool, of the fixed pool, and of what makes and resets.
+//!
+//! `kinds`: what each owns is dropped once, whichever call of `init` refuses and whichever request
+//! for memory is refused. `no_memory`: calls that ask for none. `texts`, `differences`: how each
+//! type is shown, compared and hashed. `lazy_threads`: lazy pools that discard beside other
+//! threads. `channels`, `sends`: what goes from thread to thread.
 #![tactic(auto)]
 
 #[cfg(test)]
@@ -7,14 +12,22 @@ mod assert_equal;
 #[cfg(test)]
 mod channels;
 #[cfg(test)]
-mod closures;
+mod differences;
 #[cfg(test)]
 mod fixed_object_pool;
 #[cfg(test)]
+mod kinds;
+#[cfg(test)]
+mod lazy_threads;
+#[cfg(test)]
 mod linear_object_pool;
 #[cfg(test)]
-mod made;
+mod makers;
+#[cfg(test)]
+mod no_memory;
 #[cfg(test)]
 mod recycling;
 #[cfg(test)]
-mod threads;
+mod sends;
+#[cfg(test)]
+mod texts;

@@ -1,161 +1,74 @@
 //! A pool of a type that says itself how its values are made and reset.
 ghost use Rattle.std.specs.Prelude.{◌≡◌, ⊤, IfSome};
 
-use crate::assert_equal::{assert_equal, assert_shown};
-use lockfree_object_pool::free_list::FreeList;
-use lockfree_object_pool::made_or_reset::MadeOrReset;
-use lockfree_object_pool::recycling::{
-    FixedPool, MutexPool, OwnedReusable, Pool, Recyclable, Recycler, Reusable, SpinLockPool,
-};
-use lockfree_object_pool::stack_object_pool::StackObjectPool;
-use lockfree_object_pool::{LinearObjectPool, PullError};
+use crate::assert_equal::assert_equal;
+use lockfree_object_pool::PullError;
+use lockfree_object_pool::recycling::{FixedPool, MutexPool, Pool, Recyclable, SpinLockPool};
 use std::alloc::Global;
-use std::process::Abort;
-use std::sync::{Arc, Wait};
+use std::sync::Arc;
+use std::sync::atomic::AtomicUsize;
+use std::sync::atomic::Ordering::SeqCst;
+use test_values::tallied::Tallied;
+use test_values::tally::{Tally, new_tally};
 
-mod resets;
-
-/// A count that begins at 1.
-#[derive(Debug, Drop)]
-struct Counter {
-    count: u64,
-}
-
-impl Recyclable for Counter {
-    ghost is_clean = { λ counter. counter.count ≡ 1 };
-
-    fn make(_alloc: Global) -> Option<Counter> {
-        Some(Counter { count: 1 })
-    }
-
-    fn reset(&mut self) {
-        self.count = 1;
-    }
-}
-
-/// What a clean counter holds, which is then written.
-fn read_and_write(counter: &mut Counter) -> u64
-    requires { counter.old.count ≡ 1 }
-    ensures { result ≡ 1 }
+/// How long a vector of a fixed pool is as it is pulled, which is then written.
+fn use_once(pool: &FixedPool<Vec<u8>>) -> Option<usize>
+    ensures { IfSome result (λ found. found ≡ 0) }
 {
-    let found = counter.count;
-    counter.count = 5;
-    found
-}
-
-/// What a value of a linear pool holds as it is pulled, which is then written.
-fn use_once(pool: &Pool<Counter>) -> Option<u64>
-    ensures { IfSome result (λ found. found ≡ 1) }
-{
-    Some(read_and_write(&mut *pool.pull().ok()?))
+    let mut vector = pool.pull().ok()?;
+    let found = vector.len();
+    vector.push(5).ok()?;
+    Some(found)
 }
 
 #[test]
-fn each_use_finds_the_counter_clean(rt: HostRuntime) {
-    let pool = Pool::with_recycler(rt.alloc()).expect(&rt, "a pool is made");
+fn each_use_of_a_fixed_pool_finds_the_vector_clean(rt: HostRuntime) {
+    let pool = FixedPool::with_recycler(rt.alloc(), 1).expect(&rt, "a pool is made");
     for _ in 0..3 {
-        assert_equal(&rt, use_once(&pool), Some(1));
+        assert_equal(&rt, use_once(&pool), Some(0));
     }
-}
-
-#[test]
-fn a_bounded_pool_of_recyclable_values(rt: HostRuntime) {
-    let recycler = Recycler::new(rt.alloc());
-    let pool: Pool<Counter> = LinearObjectPool::with_limit(
-        rt.alloc(),
-        recycler,
-        recycler,
-        1,
-    ).expect(&rt, "a pool is made");
-    assert_equal(&rt, pool.limit(), Some(1));
-    let counter: Reusable<'_, Counter> = pool.pull().expect(&rt, "an item is free");
-    assert_equal(&rt, counter.count, 1);
-}
-
-#[test]
-fn an_owned_value_and_its_pool_are_shown(rt: HostRuntime) {
-    let pool = Pool::with_recycler(rt.alloc()).expect(&rt, "a pool is made");
-    assert_shown(
-        &rt,
-        rt.alloc(),
-        &pool,
-        "LinearObjectPool { limit: None, .. }",
-    );
-    let pool = Arc::new(rt.alloc(), pool).expect(&rt, "memory is left");
-    let mut counter: OwnedReusable<Counter> = pool.pull_owned().expect(&rt, "an item is free");
-    counter.count = 7;
-    assert_shown(&rt, rt.alloc(), &counter, "Counter { count: 7 }");
 }
 
 /// A vector or a text, which has a length and room.
 trait Roomy: Recyclable + Drop {
-    /// Its length and its room.
-    fn measures(&self) -> (usize, usize);
-
-    /// Makes room for so many bytes more, and writes one.
-    fn fill(&mut self, room: usize) -> Option<()>;
+    /// Returns its length and its room. Then makes room for so many bytes, and writes one.
+    fn fill(&mut self, room: usize) -> Option<(usize, usize)>;
 }
 
 impl Roomy for Vec<u8> {
-    fn measures(&self) -> (usize, usize) {
-        (self.len(), self.capacity())
-    }
-
-    fn fill(&mut self, room: usize) -> Option<()> {
+    fn fill(&mut self, room: usize) -> Option<(usize, usize)> {
+        let found = (self.len(), self.capacity());
         self.reserve(room).ok()?;
-        self.push(7).ok()
+        self.push(7).ok()?;
+        Some(found)
     }
 }
 
 impl Roomy for String {
-    fn measures(&self) -> (usize, usize) {
-        (self.len(), self.capacity())
-    }
-
-    fn fill(&mut self, room: usize) -> Option<()> {
+    fn fill(&mut self, room: usize) -> Option<(usize, usize)> {
+        let found = (self.len(), self.capacity());
         self.reserve(room).ok()?;
-        self.push_str("a").ok()
+        self.push_str("a").ok()?;
+        Some(found)
     }
 }
 
-/// The room of a pool's first item as it is made; then its id, its length and its room once it was
-/// given so much room, was written to, and came back.
-fn made_and_again<T: Roomy>(alloc: Global, room: usize) -> Option<(usize, (u8, usize, usize))> {
+/// Whether a pool's first item is made without length or room, and comes again without length and
+/// with so much room as it was given. So it takes no memory before it is used.
+fn comes_empty<T: Roomy>(alloc: Global, room: usize) -> Option<bool> {
     let pool = Pool::<T>::with_recycler(alloc).ok()?;
+    let made = pool.pull().ok()?.fill(room)?;
     let mut item = pool.pull().ok()?;
-    let (_, made) = item.measures();
-    item.fill(room)?;
-    drop(item);
-    let again = pool.pull().ok()?;
-    let (length, left) = again.measures();
-    Some((made, (again.page_id(), length, left)))
-}
-
-/// Whether the item came back empty, with so much room at least.
-fn came_empty<T: Roomy>(alloc: Global, room: usize) -> bool {
-    match made_and_again::<T>(alloc, room) {
-        Some((_, (0, 0, left))) => left >= room,
-        _ => false,
-    }
+    let is_first = item.page_id() == 0;
+    let (length, left) = item.fill(room)?;
+    Some(is_first && made == (0, 0) && length == 0 && left >= room)
 }
 
 #[test]
 fn vectors_and_texts_come_empty_with_their_room(rt: HostRuntime) {
-    assert!(rt; came_empty::<Vec<u8>>(rt.alloc(), 5) && came_empty::<String>(rt.alloc(), 5));
-}
-
-/// What a value of a fixed pool holds as it is pulled, which is then written.
-fn use_fixed_once(pool: &FixedPool<Counter>) -> Option<u64>
-    ensures { IfSome result (λ found. found ≡ 1) }
-{
-    Some(read_and_write(&mut *pool.pull().ok()?))
-}
-
-#[test]
-fn each_use_of_a_fixed_pool_finds_the_counter_clean(rt: HostRuntime) {
-    let pool = FixedPool::with_recycler(rt.alloc(), 1).expect(&rt, "a pool is made");
-    for _ in 0..3 {
-        assert_equal(&rt, use_fixed_once(&pool), Some(1));
+    for room in [5, 100_000] {
+        assert_equal(&rt, comes_empty::<Vec<u8>>(rt.alloc(), room), Some(true));
+        assert_equal(&rt, comes_empty::<String>(rt.alloc(), room), Some(true));
     }
 }
 
@@ -174,59 +87,74 @@ impl Recyclable for Never {
 }
 
 #[test]
-fn a_recyclable_type_that_refuses_has_no_pool(rt: HostRuntime) {
-    let refused = Pool::<Never>::with_recycler(rt.alloc()).err();
-    assert_equal(&rt, refused, Some(PullError::Init));
-}
-
-/// How a pull of a stack pool is answered whose values are never made.
-fn refusal_of_stack<F: FreeList<Never, MadeOrReset<Recycler, Recycler, Recycler>>, W: Wait + Copy>(
-    rt: &W,
-    pool: &StackObjectPool<Never, Recycler, Recycler, Recycler, F>,
-) -> Option<PullError> {
-    pool.pull(rt).err()
-}
-
-/// The same of each kind of stack pool.
-fn refusals_of_stacks<W: Abort + Wait + Copy>(
-    rt: &W,
-    alloc: Global,
-) -> (Option<PullError>, Option<PullError>) {
-    let mutex = MutexPool::<Never>::with_recycler(alloc);
-    let spin_lock = SpinLockPool::<Never>::with_recycler(alloc).expect(rt, "a pool is made");
-    (
-        refusal_of_stack(rt, &mutex),
-        refusal_of_stack(rt, &spin_lock),
-    )
-}
-
-#[test]
 fn each_kind_of_pool_tells_that_a_recyclable_type_refused(rt: HostRuntime) {
+    let alloc = rt.alloc();
     let init = Some(PullError::Init);
-    let bounded = Pool::<Never>::with_recycler_within(rt.alloc(), 2).err();
-    let fixed = FixedPool::<Never>::with_recycler(rt.alloc(), 3).err();
-    assert_equal(&rt, (bounded, fixed), (init, init));
-    assert_equal(&rt, refusals_of_stacks(&rt, rt.alloc()), (init, init));
+    let linear = Pool::<Never>::with_recycler(alloc).err();
+    let bounded = Pool::<Never>::with_recycler_within(alloc, 2).err();
+    let fixed = FixedPool::<Never>::with_recycler(alloc, 3).err();
+    assert_equal(&rt, (linear, bounded, fixed), (init, init, init));
+    let mutex = MutexPool::<Never>::with_recycler(alloc);
+    assert_equal(&rt, mutex.pull(&rt).err(), init);
+    let spin_lock = SpinLockPool::<Never>::with_recycler(alloc).expect(&rt, "a pool is made");
+    assert_equal(&rt, spin_lock.pull(&rt).err(), init);
 }
 
-/// So they take no memory before they are used.
+/// A value that adds its digit to a number when it is reset.
+#[derive(Drop)]
+struct Listed {
+    list: Option<(Arc<AtomicUsize>, usize)>,
+}
+
+impl Recyclable for Listed {
+    ghost is_clean = { λ _. ⊤ };
+
+    fn make(_alloc: Global) -> Option<Listed> {
+        Some(Listed { list: None })
+    }
+
+    fn reset(&mut self) {
+        if let Some((list, digit)) = &self.list {
+            let said = list.load(SeqCst).wrapping_mul(10);
+            list.store(said.wrapping_add(*digit), SeqCst);
+        }
+    }
+}
+
+/// Lets the two values of a pair say 1 and 2 when they are reset, and returns it.
+fn list_a_pair(pool: &Pool<(Listed, Listed)>, list: &Arc<AtomicUsize>) -> Option<()> {
+    let mut pair = pool.pull().ok()?;
+    pair.0.list = Some((Arc::try_clone(list).ok()?, 1));
+    pair.1.list = Some((Arc::try_clone(list).ok()?, 2));
+    Some(())
+}
+
+/// Each value of a pair is reset once a return, and keeps its place.
 #[test]
-fn vectors_and_texts_are_made_without_room(rt: HostRuntime) {
-    let vector = made_and_again::<Vec<u8>>(rt.alloc(), 5).expect(&rt, "nothing is refused");
-    let text = made_and_again::<String>(rt.alloc(), 5).expect(&rt, "nothing is refused");
-    assert_equal(&rt, (vector.0, text.0), (0, 0));
+fn a_pair_resets_its_first_value_first(rt: HostRuntime) {
+    let list = Arc::new(rt.alloc(), AtomicUsize::new(0)).expect(&rt, "memory is left");
+    let pool = Pool::with_recycler(rt.alloc()).expect(&rt, "a pool is made");
+    assert!(rt; list_a_pair(&pool, &list).is_some());
+    for expected in [1212, 121212] {
+        drop(pool.pull().expect(&rt, "an item is free"));
+        assert_equal(&rt, list.load(SeqCst), expected);
+    }
+}
+
+/// How many tallied values live while an item holds one in each of its parts, and when it has come
+/// back.
+fn living_in_an_item(alloc: Global, tally: &Arc<Tally>) -> Option<(usize, usize)> {
+    let pool = Pool::<(Option<Tallied>, Vec<Tallied>)>::with_recycler(alloc).ok()?;
+    let mut item = pool.pull().ok()?;
+    item.0 = Some(Tallied::new(tally)?);
+    item.1.push(Tallied::new(tally)?).ok()?;
+    let living = tally.living();
+    drop(item);
+    Some((living, tally.living()))
 }
 
 #[test]
-fn vectors_and_texts_keep_much_room(rt: HostRuntime) {
-    assert!(rt; came_empty::<Vec<u8>>(rt.alloc(), 100_000));
-    assert!(rt; came_empty::<String>(rt.alloc(), 100_000));
-}
-
-#[test]
-fn a_fixed_pool_and_its_item_are_shown(rt: HostRuntime) {
-    let pool = FixedPool::<Counter>::with_recycler(rt.alloc(), 33).expect(&rt, "a pool is made");
-    assert_shown(&rt, rt.alloc(), &pool, "FixedObjectPool { items: 33, .. }");
-    let counter = pool.pull().expect(&rt, "an item is free");
-    assert_shown(&rt, rt.alloc(), &counter, "Counter { count: 1 }");
+fn what_a_recyclable_value_holds_is_dropped_at_its_return(rt: HostRuntime) {
+    let tally = new_tally(rt.alloc()).expect(&rt, "memory is left");
+    assert_equal(&rt, living_in_an_item(rt.alloc(), &tally), Some((2, 0)));
 }

@@ -1,0 +1,384 @@
+//! Each kind, used until `init` refuses, until memory is refused, or to its end: what it owns is
+//! dropped once, its items, its `init` and its `reset`.
+use crate::assert_equal::assert_equal;
+use lockfree_object_pool::clean::{AnyValue, Empty};
+use lockfree_object_pool::closures::{Clear, Init, Reset, WithCapacity};
+use lockfree_object_pool::{LazyObjectPool, LazyOwnedReusable, LazyReusable, PullError};
+use object_pool_cores::buffers::{Buffer, BufferPool};
+use object_pool_cores::interleave::{Event, Prepared, Seen, World};
+use object_pool_cores::sequential::{
+    Command, LinearCore, Player, Reply, RunError, SequentialPool, StackCore,
+};
+use rows::setting::{Makes, Resets, Setting, function_objects};
+use std::alloc::Global;
+use std::process::Abort;
+use std::sync::Arc;
+use test_values::counted::NEVER;
+use test_values::sizes::SIZES;
+use test_values::tallied::Tallied;
+
+/// One who pulls: a reference to a pool borrowed items, an owner of it owned ones.
+pub trait Pulls: Drop {
+    type Item: Drop;
+
+    fn pull_one(&self) -> Result<Self::Item, PullError>;
+}
+
+/// Pulls so many items, and adds them to those that are held.
+pub fn hold<P: Pulls>(pool: &P, count: usize, held: &mut Vec<P::Item>) -> Result<(), PullError> {
+    for _ in 0..count {
+        held.push(pool.pull_one()?)?;
+    }
+    Ok(())
+}
+
+/// Pulls so many items, and holds them together.
+pub fn held<P: Pulls>(alloc: Global, pool: &P, count: usize) -> Result<Vec<P::Item>, PullError> {
+    let mut held = Vec::with_capacity(alloc, count)?;
+    hold(pool, count, &mut held)?;
+    Ok(held)
+}
+
+/// Holds items together, and once more when they are back. They come back after who pulled them
+/// has ended.
+fn hold_twice<P: Pulls>(alloc: Global, pool: P, count: usize) -> Result<(), PullError> {
+    drop(held(alloc, &pool, count)?);
+    let held = held(alloc, &pool, count)?;
+    drop(pool);
+    drop(held);
+    Ok(())
+}
+
+pub type Lazy = LazyObjectPool<Tallied, Makes, Resets>;
+
+impl<'p> Pulls for &'p Lazy {
+    type Item = LazyReusable<'p, Tallied, Makes, Resets>;
+
+    fn pull_one(&self) -> Result<Self::Item, PullError> {
+        self.pull()
+    }
+}
+
+impl Pulls for Arc<Lazy> {
+    type Item = LazyOwnedReusable<Tallied, Makes, Resets>;
+
+    fn pull_one(&self) -> Result<Self::Item, PullError> {
+        self.pull_owned()
+    }
+}
+
+/// Opens a lazy pool of so many items, or of one.
+pub fn lazy_pool(alloc: Global, setting: &Arc<Setting>, items: usize) -> Result<Lazy, PullError> {
+    let (init, reset) = function_objects(setting)?;
+    LazyObjectPool::new(alloc, init, reset, items.max(1))
+}
+
+/// Makes vectors where values of a setting are made. A vector isn't tallied, so the value that
+/// stood for it is dropped at once.
+#[derive(Drop)]
+struct MakesBuffers {
+    alloc: Global,
+    values: Makes,
+}
+
+impl Init<Vec<u8>, Empty> for MakesBuffers {
+    fn make(&self) -> Option<Vec<u8>> {
+        let _value = self.values.make()?;
+        Some(Vec::new(self.alloc))
+    }
+}
+
+/// Clears vectors, and counts these resets.
+#[derive(Drop)]
+struct ClearsBuffers {
+    setting: Arc<Setting>,
+}
+
+impl Reset<Vec<u8>, Empty> for ClearsBuffers {
+    fn reset(&self, vector: &mut Vec<u8>) {
+        vector.clear();
+        self.setting.tally.count_reset();
+    }
+}
+
+type Buffers = BufferPool<MakesBuffers, ClearsBuffers>;
+
+impl<'p, I: Init<Vec<u8>, Empty>, R: Reset<Vec<u8>, Empty>> Pulls for &'p BufferPool<I, R> {
+    type Item = Buffer<'p, I, R>;
+
+    fn pull_one(&self) -> Result<Self::Item, PullError> {
+        self.pull()
+    }
+}
+
+/// Opens a pool of as many pages as so many buffers need.
+fn buffers(alloc: Global, setting: &Arc<Setting>, items: usize) -> Result<Buffers, PullError> {
+    let (values, _) = function_objects(setting)?;
+    let init = MakesBuffers { alloc, values };
+    let setting = Arc::try_clone(setting)?;
+    BufferPool::new(
+        alloc,
+        init,
+        ClearsBuffers { setting },
+        items.div_ceil(32).max(1),
+    )
+}
+
+#[test]
+fn a_pool_whose_init_refuses_at_once_is_not_made(rt: HostRuntime) {
+    let setting = Setting::new(rt.alloc(), 0).expect(&rt, "memory is left");
+    let refusal = buffers(rt.alloc(), &setting, 32).err();
+    assert_equal(&rt, refusal, Some(PullError::Init));
+}
+
+#[test]
+fn a_pull_behind_32_held_buffers_is_refused_by_the_limit(rt: HostRuntime) {
+    let init = WithCapacity::new(rt.alloc(), 16);
+    let pool = BufferPool::new(rt.alloc(), init, Clear, 1).expect(&rt, "a pool is made");
+    let buffers = held(rt.alloc(), &&pool, 32).expect(&rt, "32 buffers are free");
+    assert_equal(&rt, pool.pull().err(), Some(PullError::Limit));
+    drop(buffers);
+}
+
+/// What a player did, or why not.
+fn played(replied: Result<Reply<Tallied>, RunError>) -> Result<(), PullError> {
+    match replied {
+        Ok(Reply::Refused(refusal)) => Err(refusal),
+        Ok(_) => Ok(()),
+        Err(_) => Err(PullError::Memory),
+    }
+}
+
+/// A player pulls so many items.
+fn pull<P: SequentialPool<Tallied>>(
+    player: &mut Player<Tallied, P>,
+    items: usize,
+) -> Result<(), PullError> {
+    for _ in 0..items {
+        played(player.play(Command::Pull))?;
+    }
+    Ok(())
+}
+
+/// A player returns so many items, from this index on.
+fn give_back<P: SequentialPool<Tallied>>(
+    player: &mut Player<Tallied, P>,
+    first: usize,
+    items: usize,
+) -> Result<(), PullError> {
+    for index in 0..items {
+        played(player.play(Command::Return(first.saturating_add(index))))?;
+    }
+    Ok(())
+}
+
+/// A player holds items and returns them, twice, and ends.
+fn play<P: SequentialPool<Tallied> + Drop>(
+    mut player: Player<Tallied, P>,
+    items: usize,
+) -> Result<(), PullError> {
+    for first in [0, items] {
+        pull(&mut player, items)?;
+        give_back(&mut player, first, items)?;
+    }
+    Ok(())
+}
+
+fn play_linear(alloc: Global, setting: &Arc<Setting>, items: usize) -> Result<(), PullError> {
+    let (init, reset) = function_objects(setting)?;
+    let core: LinearCore<Tallied, Makes, Resets, AnyValue> = LinearCore::new(alloc, init, reset)?;
+    play(Player::new(alloc, core), items)
+}
+
+fn play_stack(alloc: Global, setting: &Arc<Setting>, items: usize) -> Result<(), PullError> {
+    let (init, reset) = function_objects(setting)?;
+    let core: StackCore<Tallied, Makes, Resets, AnyValue> = StackCore::new(alloc, init, reset);
+    play(Player::new(alloc, core), items)
+}
+
+type Tracked = World<Tallied, Resets>;
+
+/// A step that is enabled. It is refused where there is no memory.
+fn done(world: &mut Tracked, event: Event<Tallied>) -> Result<Seen, PullError> {
+    match world.step(event) {
+        Seen::NotEnabled => Err(PullError::Limit),
+        Seen::NoMemory => Err(PullError::Memory),
+        Seen::Refused(_, refusal) => Err(refusal),
+        seen => Ok(seen),
+    }
+}
+
+/// An agent begins, and pulls an item of the first page that has one. Behind a full last page it
+/// links one.
+fn begin(world: &mut Tracked, alloc: Global, init: &Makes, agent: usize) -> Result<(), PullError> {
+    done(world, Event::Begin)?;
+    for _page in 0..100 {
+        done(world, Event::ReadMask(agent))?;
+        if let Ok(Seen::Pulled(..)) = done(world, Event::ClearBit(agent)) {
+            done(world, Event::MoveOut(agent))?;
+            return Ok(());
+        }
+        if let Seen::Next(_, false) = done(world, Event::ReadNext(agent))? {
+            let page = Prepared::make(alloc, &|| init.make());
+            done(world, Event::MakePage(agent, page))?;
+            done(world, Event::ExchangeNext(agent))?;
+        }
+    }
+    Err(PullError::Limit)
+}
+
+/// So many agents, from this one on, hold items together.
+fn begin_all(
+    world: &mut Tracked,
+    alloc: Global,
+    init: &Makes,
+    (first, agents): (usize, usize),
+) -> Result<(), PullError> {
+    for agent in 0..agents {
+        begin(world, alloc, init, first.saturating_add(agent))?;
+    }
+    Ok(())
+}
+
+/// So many agents, from this one on, return their items.
+fn give_all(world: &mut Tracked, first: usize, agents: usize) -> Result<(), PullError> {
+    for agent in 0..agents {
+        done(world, Event::MoveHome(first.saturating_add(agent)))?;
+        done(world, Event::OrMask(first.saturating_add(agent)))?;
+    }
+    Ok(())
+}
+
+/// Agents hold so many items and return them, and others do the same.
+fn use_world(alloc: Global, setting: &Arc<Setting>, items: usize) -> Result<(), PullError> {
+    let (init, reset) = function_objects(setting)?;
+    let first = Prepared::make(alloc, &|| init.make())?;
+    let mut world = World::new(alloc, first, reset)?;
+    for first in [0, items] {
+        begin_all(&mut world, alloc, &init, (first, items))?;
+        give_all(&mut world, first, items)?;
+    }
+    Ok(())
+}
+
+/// What is opened, used and let go.
+#[derive(Clone, Copy, Debug)]
+enum Kind {
+    LazyPool,
+    /// A lazy pool that ends with the last of its items.
+    OwnedLazyPool,
+    BufferPool,
+    LinearPlayer,
+    StackPlayer,
+    World,
+}
+
+const KINDS: [Kind; 6] = [
+    Kind::LazyPool,
+    Kind::OwnedLazyPool,
+    Kind::BufferPool,
+    Kind::LinearPlayer,
+    Kind::StackPlayer,
+    Kind::World,
+];
+
+/// Opens one, holds so many items together, twice, and lets all go.
+fn use_up(
+    kind: Kind,
+    alloc: Global,
+    setting: &Arc<Setting>,
+    items: usize,
+) -> Result<(), PullError> {
+    match kind {
+        Kind::LazyPool => hold_twice(alloc, &lazy_pool(alloc, setting, items)?, items),
+        Kind::OwnedLazyPool => {
+            let pool = Arc::new(alloc, lazy_pool(alloc, setting, items)?)?;
+            hold_twice(alloc, pool, items)
+        }
+        Kind::BufferPool => hold_twice(alloc, &buffers(alloc, setting, items)?, items),
+        Kind::LinearPlayer => play_linear(alloc, setting, items),
+        Kind::StackPlayer => play_stack(alloc, setting, items),
+        Kind::World => use_world(alloc, setting, items),
+    }
+}
+
+/// How a use ended: what it answered, how often `init` was called and values were reset, and how
+/// many values, initializers and resets weren't dropped.
+type Ending = (Result<(), PullError>, (usize, usize), usize);
+
+/// Uses one whose `init` refuses this call, counted from 0.
+fn end_of(kind: Kind, alloc: Global, refused: usize, items: usize) -> Result<Ending, PullError> {
+    let setting = Setting::new(alloc, refused)?;
+    let used = use_up(kind, alloc, &setting, items);
+    let tally = &setting.tally;
+    let owners = Arc::strong_count(&setting).wrapping_sub(1);
+    let left = tally.living().wrapping_add(owners);
+    Ok((used, (tally.calls(), tally.resets()), left))
+}
+
+/// If nothing is refused, all is dropped, each item was reset at each return, and no more were made
+/// than pages of them.
+fn ends_after_use(rt: &impl Abort, alloc: Global, kind: Kind, items: usize) {
+    let ending = end_of(kind, alloc, NEVER, items).expect(rt, "memory is left");
+    let (used, (calls, resets), left) = ending;
+    let expected = (Ok(()), items.wrapping_mul(2), 0);
+    assert_equal(rt, (used, resets, left), expected);
+    let beside = calls.max(1).wrapping_sub(items.max(1));
+    assert!(*rt; beside < 32, "{calls} made for {items} items of {kind:?}");
+}
+
+/// How many items are held, and how many calls of `init` there are at least: of pages the fourth
+/// word is begun.
+const ITEMS: usize = 100;
+
+/// `init` refuses at each of a hundred calls: it isn't asked again, its refusal is told as such,
+/// and all is dropped.
+fn ends_where_init_refuses(rt: &impl Abort, alloc: Global, kind: Kind) {
+    for refused in 0..ITEMS {
+        let ending = end_of(kind, alloc, refused, ITEMS).expect(rt, "memory is left");
+        let (used, (calls, _), left) = ending;
+        let expected = (Err(PullError::Init), refused + 1, 0);
+        assert_equal(rt, (used, calls, left), expected);
+    }
+}
+
+#[test]
+fn what_each_owns_is_dropped(rt: HostRuntime) {
+    for kind in KINDS {
+        ends_where_init_refuses(&rt, rt.alloc(), kind);
+        ends_after_use(&rt, rt.alloc(), kind, ITEMS);
+    }
+}
+
+/// The greatest number of items that a test has time to hold. `test_sizes`, a built program, has
+/// pools and cores of 300,000 items and more.
+const MOST_HELD: usize = 2_049;
+
+fn ends_at_each_size(rt: &impl Abort, alloc: Global, kind: Kind) {
+    for items in SIZES {
+        if items <= MOST_HELD {
+            ends_after_use(rt, alloc, kind, items);
+        }
+    }
+}
+
+#[test]
+fn items_of_each_size_come_back(rt: HostRuntime) {
+    for kind in KINDS {
+        ends_at_each_size(&rt, rt.alloc(), kind);
+    }
+}
+
+/// How many items are held where memory is refused: of pages the second word is begun.
+const FEW_ITEMS: usize = 34;
+
+/// Whichever request for memory is refused, all is dropped, and there is no other cause.
+#[test]
+fn what_each_owns_is_dropped_where_memory_was_refused(rt: HostRuntime) {
+    for kind in KINDS {
+        if let Ok((used, _, left)) = end_of(kind, rt.alloc(), NEVER, FEW_ITEMS) {
+            assert!(rt; matches!(used, Ok(()) | Err(PullError::Memory)));
+            assert_equal(&rt, left, 0);
+        }
+    }
+}
