@@ -6,7 +6,7 @@ ghost use Rattle.std.specs.Prelude.{◌≡◌, ◌⊎◌, [], ◌∷◌, Some, I
 ghost use Rattle.history_lock.specs.History.{IsPrefixOf};
 
 use crate::law::{Law, Section};
-use crate::rule::{Free, Look, OneHistory, Take, Merges, Visitor};
+use crate::rule::{Free, Look, Merges, OneHistory, Take, Visitor};
 use crate::seen::Seen;
 use atomic_table::{Refused, Seat, Table};
 use std::alloc::{AllocFailed, Global};

@@ -78,7 +78,7 @@ impl Waiters {
         (self.returns.load(SeqCst) & 0xffff_ffff) as u32
     }
 
-    /// Sleeps until a return is counted, unless one was since `seen`. It may also end for no reason.
+    /// Sleeps until a return is counted, unless one was since `seen`. It may end for no reason.
     pub(crate) fn sleep<W: Wait>(&self, rt: &W, seen: u32) {
         self.returns.park(rt, seen);
     }
