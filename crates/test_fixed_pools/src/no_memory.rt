@@ -22,8 +22,9 @@ fn pull_fixed(pool: &Pool) -> Option<(usize, usize, PageId)> {
     drop(pool.try_pull(&pass).ok()?);
     let item = pool.pull_item(1).ok()?;
     pool.give(item.holding, item.value);
-    let kept = pool.pull().ok()?.try_reset().ok()?;
-    kept.give_kept();
+    if let Ok(left) = pool.pull().ok()?.try_reset() {
+        left.give_kept();
+    }
     let item = pool.pull().ok()?;
     Some((item.number(), item.page_number(), item.page_id()))
 }
