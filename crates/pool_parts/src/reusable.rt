@@ -1,4 +1,4 @@
-//! What the reusables of all pools but the stack and the none pools have in common.
+//! What a worker does with the reusables of its pool, be it a fixed, a lazy or a linear one.
 ghost use Rattle.std.specs.Prelude.{◌≡◌, IfOk, IfErr};
 
 /// A pulled value and its item, which a pool's pull returns: it lends the value, and returns the
