@@ -1,3 +1,4 @@
+pub mod Agents
 pub mod Letters
 pub mod Palindromes
 pub mod Replies

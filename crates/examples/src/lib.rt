@@ -11,11 +11,14 @@
 //!    letter holds what its writer put there.
 //! 5. [`word_counts`]: threads that count words. Each has a worker of one pool, and so the same
 //!    scratch for each line.
+//! 6. [`agents`]: agents that pull and return in a world, step by step. Their answers are those of
+//!    one pool, by the main theorem.
 //!
 //! The callers of `CALLING.md`, a page or less each, are in [`calling`], and the code of doc
 //! comments in [`documented`].
 #![tactic(auto)]
 
+pub mod agents;
 #[cfg(test)]
 mod assert_equal;
 #[cfg(test)]

@@ -1,22 +1,15 @@
 -- What a linear pool and its reusables show, and what a pull gives.
-use mir.Syntax.{named}
-use Rattle.std.specs.Prelude.{◌≡◌, ◌⊎◌, ℕ, ◌<◌, [], Option, IfSome, Some}
+use Rattle.std.specs.Prelude.{◌≡◌, ◌⊎◌, ℕ, ◌<◌, Option, IfSome, Some}
 use Rattle.std.specs.Arc.{arc_value}
-use Rattle.std.specs.Borrow.{Lends, Fml, RattleType, MutBor}
 use Rattle.std.specs.Option.{option_map}
 use Rattle.pool_parts.specs.Answers.{IsMadeOrReset}
 use Rattle.pool_parts.specs.Item.{Item, IsPulled, IsFilled, new_user}
 use Rattle.pool_parts.specs.Ledger.{EachReturned}
 use Rattle.pool_parts.specs.Page.{PageView, page_view}
-use Rattle.pool_parts.specs.declared.clean.Clean as Clean
-use Rattle.pool_parts.specs.declared.closures.Init as Init
-use Rattle.pool_parts.specs.declared.closures.Reset as Reset
 use Rattle.pool_parts.specs.declared.made_or_reset.MadeOrReset.{MadeOrReset}
 use Rattle.pool_parts.specs.declared.page.word.TheConstants.{PAGE_ITEMS}
 use Rattle.page_chain.specs.Walk.{ChainPage, ChainItem, IsLinkedAt}
 use Rattle.page_chain.specs.declared.linear_page.page_number.PageNumber.{PageNumber}
-use Rattle.linear_pools.specs.contracts.linear_owned_reusable.LinearOwnedReusable as Owned
-use Rattle.linear_pools.specs.contracts.linear_reusable.LinearReusable as Borrowed
 use Rattle.linear_pools.specs.declared.linear_object_pool.AnswerOf.{AnswerOf}
 use Rattle.linear_pools.specs.declared.linear_object_pool.LinearObjectPool.{LinearObjectPool}
 
@@ -62,21 +55,3 @@ module _ {T I R K : Type 0} where
 -- a reusable with another value
 abbrev pub with_value : {P T K O : Type 0} → ChainItem P T K O → T → ChainItem P T K O
 with_value reusable value = record reusable { item = record reusable.item { value = value } }
-
-module _ (T I R K : RattleType) (init : Init.Ghosts I.Denot T.Denot K.Denot)
-    (reset : Reset.Ghosts R.Denot T.Denot K.Denot) (clean : Clean.Ghosts K.Denot T.Denot) where
-  -- what contracts see of a pulled value
-  abbrev Shown : Type 0
-  Shown = ChainItem (LinearObjectPool T.Denot I.Denot R.Denot K.Denot) T.Denot (MadeOrReset I.Denot R.Denot K.Denot)
-      (AnswerOf I.Denot K.Denot)
-
-  -- a loan of a linear reusable's value ends with the reusable as it was, but for the value written last
-  abbrev pub LendsLinearValue : MutBor Shown → MutBor T.Denot → Fml
-  LendsLinearValue reusable loan =
-      Lends (Borrowed.the_row (record { mir = named 1; lft = [] }) T I R K init reset clean) T reusable loan
-      (with_value reusable.now)
-
-  -- so it is of an owned linear reusable's value
-  abbrev pub LendsLinearOwnedValue : MutBor Shown → MutBor T.Denot → Fml
-  LendsLinearOwnedValue reusable loan =
-      Lends (Owned.the_row T I R K init reset clean) T reusable loan (with_value reusable.now)

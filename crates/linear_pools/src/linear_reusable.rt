@@ -165,14 +165,18 @@ impl<T: Drop, I: Init<T, K>, R: Reset<T, K>, K: Clean<T>> Deref for LinearReusab
 
 impl<T: Drop, I: Init<T, K>, R: Reset<T, K>, K: Clean<T>> DerefMut
     for LinearReusable<'_, T, I, R, K> {
-    ghost use Rattle.std.specs.Borrow.{sem};
-    ghost use Rattle.linear_pools.specs.LinearPool.{LendsLinearValue};
+    ghost use mir.Syntax.{named};
+    ghost use Rattle.std.specs.Prelude.{[]};
+    ghost use Rattle.std.specs.Borrow.{Lends, sem};
+    ghost use Rattle.linear_pools.specs.LinearPool.{with_value};
+    ghost use Rattle.linear_pools.specs.contracts.linear_reusable.LinearReusable.{the_row};
 
     ghost deref_mut_gives = { λ reusable value. value ≡ reusable.item.value };
 
     fn deref_mut(&mut self) -> &mut T
         ensures* writes_back { sem 𝓛
-            (LendsLinearValue T.row I.row R.row K.row I.Init R.Reset K.Clean self.entry result) }
+            (Lends (the_row (record { mir = named 1; lft = [] }) T.row I.row R.row K.row I.Init
+            R.Reset K.Clean) T.row self.entry result (with_value self.old)) }
         ensures shows { result.now ≡ self.old.item.value }
     {
         &mut self.slot.value

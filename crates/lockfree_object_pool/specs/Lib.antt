@@ -8,7 +8,6 @@ pub use Rattle.page_chain.specs.Links
 pub use Rattle.page_chain.specs.Walk
 pub use Rattle.fixed_pools.specs.FixedPool
 pub use Rattle.linear_pools.specs.LinearPool
-pub use Rattle.none_pools.specs.NonePool
 pub use Rattle.lazy_pools.specs.LazyPool
 pub use Rattle.stack_pools.specs.StackPool
 pub use Rattle.stack_pools.specs.StackHistory

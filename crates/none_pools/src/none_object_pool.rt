@@ -1,15 +1,16 @@
 //! A pool that keeps nothing: each pull makes an item, which is dropped with its reusable.
 ghost use Rattle.std.specs.Prelude.{◌≡◌, Some, None, IfOk, IfErr};
 ghost use Rattle.std.specs.Arc.{arc_value};
-ghost use Rattle.none_pools.specs.NonePool.{none_init};
-ghost use Rattle.pool_parts.specs.declared.pull_error.PullError.TheVariants.{Init};
+ghost use Rattle.pool_parts.specs.Answers.{Refuses};
 
 use crate::none_reusable::NoneReusable;
 use pool_parts::PullError;
 use std::fmt::{self, Debug, Formatter, Write};
+use std::marker::Model;
 use std::sync::Arc;
 
-/// A pool that keeps nothing, to compare other pools with. A closure makes its items.
+/// A pool that keeps nothing, to compare other pools with. A closure makes its items. In a clause
+/// it is the closure.
 ///
 /// # Examples
 ///
@@ -22,6 +23,12 @@ pub struct NoneObjectPool<T, I: Fn() -> Option<T>> {
     init: I,
 }
 
+impl<T, I: Fn() -> Option<T>> Model for NoneObjectPool<T, I> {
+    ghost Value = { I };
+
+    ghost view = { λ pool. pool.init };
+}
+
 impl<T, I: Fn() -> Option<T>> NoneObjectPool<T, I> {
     /// Creates a pool whose items this closure makes.
     ///
@@ -31,7 +38,7 @@ impl<T, I: Fn() -> Option<T>> NoneObjectPool<T, I> {
     /// let pool = NoneObjectPool::new(|| Some(0u32));
     /// ```
     pub fn new(init: I) -> NoneObjectPool<T, I>
-        ensures { none_init result ≡ init }
+        ensures { result ≡ init }
     {
         NoneObjectPool { init }
     }
@@ -42,10 +49,9 @@ impl<T, I: Fn() -> Option<T>> NoneObjectPool<T, I> {
     ///
     /// `Init` if `init` returns `None`.
     pub fn pull(&self) -> Result<NoneReusable<T>, PullError>
-        requires callable { I.pre (none_init self.now) }
-        ensures made { IfOk result (λ item. I.post (none_init self.now) (Some item)) }
-        ensures refused { IfErr result
-            (λ error. (error ≡ Init) × I.post (none_init self.now) None) }
+        requires callable { I.pre self.now }
+        ensures made { IfOk result (λ item. I.post self.now (Some item)) }
+        ensures refused { IfErr result (Refuses ⊥ (I.post self.now None) ⊥) }
     {
         match (self.init)() {
             Some(value) => Ok(NoneReusable::new(value)),
@@ -60,10 +66,9 @@ impl<T, I: Fn() -> Option<T>> NoneObjectPool<T, I> {
     ///
     /// As `pull`.
     pub fn pull_owned(self: &Arc<Self>) -> Result<NoneReusable<T>, PullError>
-        requires callable { I.pre (none_init (arc_value self.now)) }
-        ensures made { IfOk result (λ item. I.post (none_init (arc_value self.now)) (Some item)) }
-        ensures refused { IfErr result
-            (λ error. (error ≡ Init) × I.post (none_init (arc_value self.now)) None) }
+        requires callable { I.pre (arc_value self.now) }
+        ensures made { IfOk result (λ item. I.post (arc_value self.now) (Some item)) }
+        ensures refused { IfErr result (Refuses ⊥ (I.post (arc_value self.now) None) ⊥) }
     {
         self.pull()
     }

@@ -7,7 +7,7 @@ use Rattle.pool_parts.specs.declared.page.history.Operation.TheVariants.{Pull}
 use Rattle.pool_parts.specs.Ledger.{IsLegal}
 use Rattle.pool_laws.specs.Steps.{Step, Links, OnPage, history_of, values_of, AreInOrder, AreLegalPages}
 use Rattle.pool_laws.specs.Premises.{IsNoPool}
-use Rattle.pool_laws.specs.Names.{pool_user, same_name}
+use Rattle.pool_laws.specs.Names.{pool_user}
 use Rattle.pool_laws.proofs.Merging.{history-other}
 
 -- 32 zeros
@@ -53,5 +53,5 @@ both-pages page = elim (cases_eq 1 page) [
 pub in-order : AreInOrder both_zero
 in-order = (omega arith, (omega arith, (refl, tt)))
 
-pub names-matter : IsNoPool same_name zeros both_zero
+pub names-matter : IsNoPool (λ page user. user) zeros both_zero
 names-matter = record { full = refl; pages = both-pages; no_pool = λ legal. let held = legal.0.1 in cc }

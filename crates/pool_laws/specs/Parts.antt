@@ -5,7 +5,6 @@ use Rattle.pool_parts.specs.declared.page.history.Operation.TheVariants.{Pull, R
 use Rattle.pool_parts.specs.declared.page.word.TheConstants.{PAGE_ITEMS}
 use Rattle.pool_world.specs.Run.{Act, Operates, Grows, ledger_of, made}
 use Rattle.pool_laws.specs.Steps.{Step, Links, OnPage, merged}
-use Rattle.pool_laws.specs.Names.{same_name}
 
 module _ {T : Type 0} where
   -- an operation on the pool, as one on the page of its number, by the same user
@@ -20,7 +19,7 @@ module _ {T : Type 0} where
   parted (Grows agent values ∷ acts) = Links agent values ∷ parted acts
   parted (_ ∷ acts) = parted acts
 
-  -- the parts, merged again, are the same values and the same operations
+  -- the parts, merged again with each user under its own number, are the same values and the same operations
   pub record MergeAgain (first : List T) (acts : List (Act T)) : Type 0 where
-    pub values : made first (merged same_name (parted acts)) ≡ made first acts
-    pub operations : ledger_of (merged same_name (parted acts)) ≡ ledger_of acts
+    pub values : made first (merged (λ page user. user) (parted acts)) ≡ made first acts
+    pub operations : ledger_of (merged (λ page user. user) (parted acts)) ≡ ledger_of acts

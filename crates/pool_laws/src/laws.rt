@@ -7,7 +7,7 @@ ghost use Rattle.pool_world.specs.Run.{Act, AreLegalActs, Run, pages_of, pool_of
 ghost use Rattle.pool_laws.specs.Steps.{Step, AreNames, AreInOrder, AreLegalPages, merged};
 ghost use Rattle.pool_laws.specs.Steps.{history_of, linked, values_of};
 ghost use Rattle.pool_laws.specs.Parts.{MergeAgain, parted};
-ghost use Rattle.pool_laws.specs.Names.{pool_user, same_name};
+ghost use Rattle.pool_laws.specs.Names.{pool_user};
 ghost use Rattle.pool_laws.specs.Premises.{IsNoPool};
 ghost use Rattle.pool_laws.specs.Moves.{AreByHolders, LeadTo};
 ghost use Rattle.pool_laws.specs.SameRun.{AreLeft, HasRun};
@@ -35,7 +35,7 @@ pub fn names()
 pub fn premises()
     ensures order { (first : List ℕ) × (steps : List (Step ℕ)) × IsNoPool pool_user first steps }
     ensures names { (first : List ℕ) × (steps : List (Step ℕ)) × AreInOrder steps
-        × IsNoPool same_name first steps }
+        × IsNoPool (λ page user. user) first steps }
 {}
 
 /// Shows that each legal history of a pool that grows falls into legal histories of its pages, in

@@ -35,14 +35,6 @@ module _ {T K : Type 0} where
       let table = page.items.table.shared in
       record { identity = table.table_id; opening = table.key.values.value.items }
 
-  -- which page it is
-  abbrev pub page_identity : Page T K → TableId
-  page_identity page = (page_view page).identity
-
-  -- the values that the page opened with, by id
-  abbrev pub page_opening : Page T K → List (Option T)
-  page_opening page = (page_view page).opening
-
 module _ {T : Type 0} where
   -- what the user of a seat knows
   abbrev pub view_of : Seat (Option T) (UserView T) → UserView T

@@ -1,16 +1,11 @@
 -- What a page answers to a pull: a slot with an item, or that each of its items was seen in use.
-use mir.Syntax.{named}
-use Rattle.std.specs.Prelude.{◌≡◌, ℕ, ◌+◌, ◌<◌, ◌≤◌, []}
-use Rattle.std.specs.Borrow.{Lends, Fml, RattleType, MutBor}
+use Rattle.std.specs.Prelude.{◌≡◌, ℕ, ◌+◌, ◌<◌, ◌≤◌}
 use Rattle.atomic_table.specs.Seated.{TableId}
-use Rattle.pool_parts.specs.contracts.page.owned_slot.OwnedSlot as OwnedSlotRow
-use Rattle.pool_parts.specs.contracts.page.slot.PageSlot as SlotRow
-use Rattle.pool_parts.specs.declared.clean.Clean as Clean
 use Rattle.pool_parts.specs.declared.page.full_seen.Allocated.{Allocated}
 use Rattle.pool_parts.specs.declared.page.full_seen.Allocated.TheVariants.{Slot, Full}
 use Rattle.pool_parts.specs.declared.page.user_view.UserView.{UserView}
 use Rattle.pool_parts.specs.declared.page.word.TheConstants.{PAGE_ITEMS}
-use Rattle.pool_parts.specs.Item.{SlotView, SeenView, IsPageItem, IsPulled, new_user}
+use Rattle.pool_parts.specs.Item.{SeenView, IsPageItem, IsPulled, new_user}
 use Rattle.pool_parts.specs.Ledger.{IsLegal, IsPrefixOf, WasOutBetween}
 use Rattle.pool_parts.specs.Page.{PageView}
 
@@ -53,16 +48,3 @@ module _ {T K : Type 0} where
   IsAnswerOf meets page before (Slot slot) =
       IsPageItem meets slot.item × IsPulled page.identity before slot.item × (slot.opening ≡ page.opening)
   IsAnswerOf meets page before (Full seen) = IsAllOut PAGE_ITEMS page.identity before seen
-
-module _ (T K : RattleType) (clean : Clean.Ghosts K.Denot T.Denot) where
-  -- a loan of a borrowed slot's value ends with the slot as it was, but for the value written last
-  abbrev pub LendsSlotValue : MutBor (SlotView T.Denot) → MutBor T.Denot → Fml
-  LendsSlotValue slot loan =
-      Lends (SlotRow.the_row (record { mir = named 1; lft = [] }) T K clean) T slot loan
-      (λ value. record slot.now { item = record slot.now.item { value = value } })
-
-  -- so it is of an owned slot's value
-  abbrev pub LendsOwnedSlotValue : MutBor (SlotView T.Denot) → MutBor T.Denot → Fml
-  LendsOwnedSlotValue slot loan =
-      Lends (OwnedSlotRow.the_row T K clean) T slot loan
-      (λ value. record slot.now { item = record slot.now.item { value = value } })

@@ -59,16 +59,19 @@ impl<'w, T: Drop, P: WorkerPlace<T>> WorkerReusable<'w, T, P> {
 }
 
 impl<T: Drop, P: WorkerPlace<T>> DerefMut for WorkerReusable<'_, T, P> {
-    ghost use Rattle.std.specs.Borrow.{sem};
-    ghost use Rattle.pool_workers.specs.Lending.{LendsValue};
+    ghost use mir.Syntax.{named};
+    ghost use Rattle.std.specs.Prelude.{[]};
+    ghost use Rattle.std.specs.Borrow.{Lends, sem};
+    ghost use Rattle.pool_workers.specs.contracts.worker_reusable.WorkerReusable.{the_row};
 
     ghost deref_mut_gives = { λ reusable value. value ≡ P.Item.Reusable.value_of reusable };
 
     #[inline(always)]
     fn deref_mut(&mut self) -> &mut T
         ensures* writes_back { sem 𝓛
-            (LendsValue T.row P.row P.Item.row P.Item.Note.row P.WorkerPlace P.Item.Reusable self.entry
-            result) }
+            (Lends (the_row (record { mir = named 1; lft = [] }) T.row P.row P.Item.row
+            P.Item.Note.row P.WorkerPlace P.Item.Reusable) T.row self.entry result
+            (P.Item.Reusable.with_value self.old)) }
         ensures shows { result.now ≡ P.Item.Reusable.value_of self.old }
     {
         self.item.value_mut()

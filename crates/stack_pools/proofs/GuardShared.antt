@@ -13,6 +13,7 @@ use Rattle.history_lock.specs.contracts.lock.Turn.TheInside as inside
 use Rattle.history_lock.specs.contracts.lock.HistoryLock as lock
 use Rattle.history_lock.proofs.lock.HistoryLock.TheSendSync.{the_sync as lock_sync}
 use Rattle.stack_pools.specs.contracts.spin_lock.SpinLockGuard as guard
+use Rattle.stack_pools.specs.contracts.spin_lock.SpinLockGuard.TheInside as guard_inside
 use Rattle.stack_pools.specs.contracts.spin_lock.unrecorded.NoLaw as NoLaw
 
 turn_sync : (κ : NamedLft) (T E L : RattleType) (law : Law.Ghosts L.Denot T.Denot E.Denot) → IsSend T
@@ -24,4 +25,6 @@ turn_sync κ T E L law s =
 
 pub guard_sync : (κ : NamedLft) (T : RattleType) → IsSend T → IsSync T → IsSync (guard.the_row κ T)
 guard_sync κ T s y =
-    declared_sync (guard.the_type κ T) (turn_sync κ T unit NoLaw.the_row _ s, (as_row_sync (row_field T) y, tt))
+    view_sync (guard_inside.the_row κ T) _ _ _ _
+    (declared_sync (guard_inside.the_type κ T)
+    (turn_sync κ T unit NoLaw.the_row _ s, (as_row_sync (row_field T) y, tt)))

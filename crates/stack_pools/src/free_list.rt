@@ -1,4 +1,4 @@
-//! The list in which a stack pool keeps its values, shared by threads.
+//! What a stack pool asks of its list of kept values, which threads share; and the mutex pool's.
 ghost use Rattle.std.specs.Prelude.{◌≡◌, None, IfSome, length, min};
 ghost use Rattle.stack_pools.specs.StackHistory.{IsNoteOf, GoesOn, IsTake, KeptLast, WasCleared, kept_by};
 

@@ -64,7 +64,7 @@ pub type MutexOwnedReusable<T, I, R, W, K = AnyValue> = StackReusable<
 >;
 
 impl<T: Drop, I: Init<T, K>, R: Reset<T, K>, K: Clean<T>> MutexObjectPool<T, I, R, K> {
-    ghost use Rattle.stack_pools.specs.StackPool.{stack_init, stack_reset};
+    ghost use Rattle.stack_pools.specs.StackPool.{stack_view};
 
     /// Creates a pool that keeps nothing yet. It takes no memory.
     ///
@@ -74,8 +74,8 @@ impl<T: Drop, I: Init<T, K>, R: Reset<T, K>, K: Clean<T>> MutexObjectPool<T, I, 
     /// let pool: MutexObjectPool<u32, _, _> = MutexObjectPool::new(alloc, Copied::new(0), Keep);
     /// ```
     pub fn new(alloc: Global, init: I, reset: R) -> MutexObjectPool<T, I, R, K>
-        ensures init { stack_init result ≡ init }
-        ensures reset { stack_reset result ≡ reset }
+        ensures init { (stack_view result).init ≡ init }
+        ensures reset { (stack_view result).reset ≡ reset }
     {
         StackObjectPool::over(alloc, init, reset, Mutex::new(Stack::new()))
     }

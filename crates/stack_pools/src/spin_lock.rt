@@ -3,7 +3,6 @@
 //! It is a lock with a history of which nothing is asked. The guard has the value itself. Its drop
 //! puts the value back before it frees the lock. A holder that stops keeps all others waiting.
 ghost use Rattle.std.specs.Prelude.{◌≡◌, IfErr, IfSome};
-ghost use Rattle.stack_pools.specs.StackPool.{lock_of, guard_value};
 
 use history_lock::{HistoryLock, Turn};
 use std::alloc::Global;
@@ -65,7 +64,7 @@ impl<T: Drop> SpinLock<T> {
     /// Takes the lock, and waits while another guard has it. A guard that leaks keeps the lock
     /// taken for good.
     pub fn lock<W: Wait>(&self, rt: &W) -> SpinLockGuard<'_, T>
-        ensures { lock_of result ≡ self.now }
+        ensures { result.lock ≡ self.now }
     {
         let (value, turn) = self.lock.lock(rt);
         SpinLockGuard { turn, value }
@@ -73,7 +72,7 @@ impl<T: Drop> SpinLock<T> {
 
     /// Takes the lock if it is free at this moment.
     pub fn try_lock(&self) -> Option<SpinLockGuard<'_, T>>
-        ensures { IfSome result (λ guard. lock_of guard ≡ self.now) }
+        ensures { IfSome result (λ guard. guard.lock ≡ self.now) }
     {
         let (value, turn) = self.lock.try_lock()?;
         Some(SpinLockGuard { turn, value })
@@ -81,6 +80,8 @@ impl<T: Drop> SpinLock<T> {
 }
 
 /// The value of a lock. Its drop puts the value back and frees the lock.
+///
+/// In a clause it is the lock and the value.
 ///
 /// # Examples
 ///
@@ -93,10 +94,18 @@ pub struct SpinLockGuard<'s, T> {
     value: T,
 }
 
+impl<'s, T> Model for SpinLockGuard<'s, T> {
+    ghost use Rattle.stack_pools.specs.StackPool.{GuardView};
+
+    ghost Value = { GuardView T };
+
+    ghost view = { λ guard. record { lock = guard.turn.table; value = guard.value } };
+}
+
 impl<T> Deref for SpinLockGuard<'_, T> {
     type Target = T;
 
-    ghost deref_gives = { λ guard shown. shown ≡ guard_value guard };
+    ghost deref_gives = { λ guard shown. shown ≡ guard.value };
 
     fn deref(&self) -> &T {
         &self.value
@@ -104,14 +113,17 @@ impl<T> Deref for SpinLockGuard<'_, T> {
 }
 
 impl<T> DerefMut for SpinLockGuard<'_, T> {
-    ghost use Rattle.std.specs.Borrow.{sem};
-    ghost use Rattle.stack_pools.specs.StackPool.{LendsGuardedValue};
+    ghost use mir.Syntax.{named};
+    ghost use Rattle.std.specs.Prelude.{[]};
+    ghost use Rattle.std.specs.Borrow.{Lends, sem};
+    ghost use Rattle.stack_pools.specs.contracts.spin_lock.SpinLockGuard.{the_row};
 
-    ghost deref_mut_gives = { λ guard shown. shown ≡ guard_value guard };
+    ghost deref_mut_gives = { λ guard shown. shown ≡ guard.value };
 
     fn deref_mut(&mut self) -> &mut T
-        ensures* writes_back { sem 𝓛 (LendsGuardedValue T.row self.entry result) }
-        ensures shows { result.now ≡ guard_value self.old }
+        ensures* writes_back { sem 𝓛 (Lends (the_row (record { mir = named 1; lft = [] }) T.row) T.row
+            self.entry result (λ value. record self.old { value = value })) }
+        ensures shows { result.now ≡ self.old.value }
     {
         &mut self.value
     }
@@ -125,7 +137,7 @@ impl<T> Drop for SpinLockGuard<'_, T> {
 }
 
 impl<T: Debug> Debug for SpinLockGuard<'_, T> {
-    ghost debug_output = { λ guard. T.debug_output (guard_value guard) };
+    ghost debug_output = { λ guard. T.debug_output guard.value };
 
     fn fmt<W: Write>(&self, f: &mut Formatter<W>) -> fmt::Result {
         Debug::fmt(&self.value, f)

@@ -69,7 +69,7 @@ pub type SpinLockOwnedReusable<T, I, R, W, K = AnyValue> = StackReusable<
 
 impl<T: Drop, I: Init<T, K>, R: Reset<T, K>, K: Clean<T>> SpinLockObjectPool<T, I, R, K> {
     ghost use Rattle.stack_pools.specs.StackHistory.{IsNoteOf, GoesOn};
-    ghost use Rattle.stack_pools.specs.StackPool.{stack_init, stack_reset, stack_list};
+    ghost use Rattle.stack_pools.specs.StackPool.{stack_view};
     ghost use Rattle.pool_parts.specs.Answers.{Refuses};
 
     /// Creates a pool that keeps nothing yet.
@@ -88,8 +88,8 @@ impl<T: Drop, I: Init<T, K>, R: Reset<T, K>, K: Clean<T>> SpinLockObjectPool<T, 
         init: I,
         reset: R,
     ) -> Result<SpinLockObjectPool<T, I, R, K>, PullError>
-        ensures init { IfOk result (λ pool. stack_init pool ≡ init) }
-        ensures reset { IfOk result (λ pool. stack_reset pool ≡ reset) }
+        ensures init { IfOk result (λ pool. (stack_view pool).init ≡ init) }
+        ensures reset { IfOk result (λ pool. (stack_view pool).reset ≡ reset) }
         ensures refused { IfErr result (Refuses ⊤ ⊥ ⊥) }
     {
         match KeptStack::new(alloc) {
@@ -107,9 +107,9 @@ impl<T: Drop, I: Init<T, K>, R: Reset<T, K>, K: Clean<T>> SpinLockObjectPool<T, 
     /// let both = pool.learn(first, second); // comes after what both threads know
     /// ```
     pub fn learn(&self, note: StackNote<T>, other: StackNote<T>) -> StackNote<T>
-        requires of { IsNoteOf (Some (stack_list self.now)) note }
-        requires other_of { IsNoteOf (Some (stack_list self.now)) other }
-        ensures of { IsNoteOf (Some (stack_list self.now)) result }
+        requires of { IsNoteOf (Some (stack_view self.now).list) note }
+        requires other_of { IsNoteOf (Some (stack_view self.now).list) other }
+        ensures of { IsNoteOf (Some (stack_view self.now).list) result }
         ensures after { GoesOn note result }
         ensures after_other { GoesOn other result }
         ensures one { GoesOn note other ⊎ GoesOn other note }

@@ -65,12 +65,12 @@ impl<
     F: FreeList<T, MadeOrReset<I, R, K>>,
 > StackObjectPool<T, I, R, K, F> {
     ghost use Rattle.pool_parts.specs.Answers.{IsMadeOrReset, Refuses};
-    ghost use Rattle.stack_pools.specs.StackPool.{stack_init, stack_reset, stack_list, Pulls};
+    ghost use Rattle.stack_pools.specs.StackPool.{stack_view, Pulls};
 
     /// Creates a pool over this list.
     pub(crate) fn over(alloc: Global, init: I, reset: R, kept: F) -> StackObjectPool<T, I, R, K, F>
-        ensures init { stack_init result ≡ init }
-        ensures reset { stack_reset result ≡ reset }
+        ensures init { (stack_view result).init ≡ init }
+        ensures reset { (stack_view result).reset ≡ reset }
     {
         StackObjectPool {
             alloc,
@@ -93,8 +93,8 @@ impl<
     pub fn pull<W: Wait + Copy>(&self, rt: &W) -> Result<StackReusable<T, &Self, W>, PullError>
         ensures pool { IfOk result (λ item. item.pool.now ≡ self.now) }
         ensures pulled { IfOk result (λ item.
-            Pulls K.meets I.answers R.leaves (stack_init self.now) item.value item.known) }
-        ensures refused { IfErr result (Refuses ⊤ (I.answers (stack_init self.now) None) ⊥) }
+            Pulls K.meets I.answers R.leaves (stack_view self.now).init item.value item.known) }
+        ensures refused { IfErr result (Refuses ⊤ (I.answers (stack_view self.now).init None) ⊥) }
     {
         let (kept, note) = self.kept.take(rt);
         self.reusable(self, *rt, kept, note)
@@ -118,12 +118,12 @@ impl<
         rt: &W,
         note: StackNote<T>,
     ) -> Result<StackReusable<T, &Self, W>, PullError>
-        requires { IsNoteOf (F.lock (stack_list self.now)) note }
+        requires { IsNoteOf (F.lock (stack_view self.now).list) note }
         ensures pool { IfOk result (λ item. item.pool.now ≡ self.now) }
         ensures pulled { IfOk result (λ item.
-            Pulls K.meets I.answers R.leaves (stack_init self.now) item.value item.known) }
+            Pulls K.meets I.answers R.leaves (stack_view self.now).init item.value item.known) }
         ensures after { IfOk result (λ item. GoesOn note item.known) }
-        ensures refused { IfErr result (Refuses ⊤ (I.answers (stack_init self.now) None) ⊥) }
+        ensures refused { IfErr result (Refuses ⊤ (I.answers (stack_view self.now).init None) ⊥) }
     {
         let (kept, note) = self.kept.take_after(rt, note);
         self.reusable(self, *rt, kept, note)
@@ -142,10 +142,10 @@ impl<
     ) -> Result<StackReusable<T, Arc<Self>, W>, PullError>
         ensures pool { IfOk result (λ item. arc_value item.pool ≡ arc_value self.now) }
         ensures pulled { IfOk result (λ item.
-            Pulls K.meets I.answers R.leaves (stack_init (arc_value self.now)) item.value
+            Pulls K.meets I.answers R.leaves (stack_view (arc_value self.now)).init item.value
             item.known) }
         ensures refused { IfErr result
-            (Refuses ⊤ (I.answers (stack_init (arc_value self.now)) None) ⊥) }
+            (Refuses ⊤ (I.answers (stack_view (arc_value self.now)).init None) ⊥) }
     {
         let owner = Arc::try_clone(self)?;
         let (kept, note) = self.kept.take(rt);
@@ -168,8 +168,8 @@ impl<
         ensures pool { IfOk result (λ item. item.pool ≡ pool) }
         ensures known { IfOk result (λ item. item.known ≡ note) }
         ensures pulled { IfOk result (λ item.
-            Pulls K.meets I.answers R.leaves (stack_init self.now) item.value note) }
-        ensures refused { IfErr result (Refuses ⊤ (I.answers (stack_init self.now) None) ⊥) }
+            Pulls K.meets I.answers R.leaves (stack_view self.now).init item.value note) }
+        ensures refused { IfErr result (Refuses ⊤ (I.answers (stack_view self.now).init None) ⊥) }
     {
         match kept {
             Some((value, room)) => Ok(StackReusable {
@@ -195,8 +195,8 @@ impl<
     /// Makes a value and the room for its return.
     fn made(&self) -> Result<(T, Room<T>), PullError>
         ensures meets { IfOk result (λ item. K.meets item.0) }
-        ensures made { IfOk result (λ item. I.answers (stack_init self.now) (Some item.0)) }
-        ensures refused { IfErr result (Refuses ⊤ (I.answers (stack_init self.now) None) ⊥) }
+        ensures made { IfOk result (λ item. I.answers (stack_view self.now).init (Some item.0)) }
+        ensures refused { IfErr result (Refuses ⊤ (I.answers (stack_view self.now).init None) ⊥) }
     {
         let room = self.room()?;
         match self.init.make() {
@@ -212,7 +212,7 @@ impl<
     ///
     /// `Memory`, or `Init` at the first `None`. The values made until then are kept.
     pub fn fill<W: Wait>(&self, rt: &W, count: usize) -> Result<(), PullError>
-        ensures refused { IfErr result (Refuses ⊤ (I.answers (stack_init self.now) None) ⊥) }
+        ensures refused { IfErr result (Refuses ⊤ (I.answers (stack_view self.now).init None) ⊥) }
     {
         for _ in 0..count {
             let (value, room) = self.made()?;
@@ -247,7 +247,7 @@ impl<
     /// Returns a note of what the pool's operations are at a moment of this call. It costs a load
     /// at most.
     pub fn note(&self) -> StackNote<T>
-        ensures { IsNoteOf (F.lock (stack_list self.now)) result }
+        ensures { IsNoteOf (F.lock (stack_view self.now).list) result }
     {
         self.kept.note()
     }

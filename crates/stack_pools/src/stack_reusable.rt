@@ -59,13 +59,13 @@ impl<
     K: Clean<T>,
     F: FreeList<T, MadeOrReset<I, R, K>>,
 > SharedStackPool<T> for &StackObjectPool<T, I, R, K, F> {
-    ghost use Rattle.stack_pools.specs.StackPool.{stack_reset, stack_list};
+    ghost use Rattle.stack_pools.specs.StackPool.{stack_view};
 
-    ghost lock = { λ pool. F.lock (stack_list pool.now) };
+    ghost lock = { λ pool. F.lock (stack_view pool.now).list };
 
-    ghost leaves = { λ pool. R.leaves (stack_reset pool.now) };
+    ghost leaves = { λ pool. R.leaves (stack_view pool.now).reset };
 
-    ghost rejects = { λ pool. R.rejects (stack_reset pool.now) };
+    ghost rejects = { λ pool. R.rejects (stack_view pool.now).reset };
 
     fn room(&self) -> Result<Room<T>, PullError> {
         (**self).room()
@@ -76,10 +76,10 @@ impl<
     }
 
     fn give<W: Wait>(&self, rt: &W, note: StackNote<T>, room: Room<T>, value: T) -> StackNote<T>
-        requires { IsNoteOf (F.lock (stack_list self.now.now)) note }
-        ensures of { IsNoteOf (F.lock (stack_list self.now.now)) result }
-        ensures given_back { IsGivenBack (R.leaves (stack_reset self.now.now))
-            (R.rejects (stack_reset self.now.now)) value note result }
+        requires { IsNoteOf (F.lock (stack_view self.now.now).list) note }
+        ensures of { IsNoteOf (F.lock (stack_view self.now.now).list) result }
+        ensures given_back { IsGivenBack (R.leaves (stack_view self.now.now).reset)
+            (R.rejects (stack_view self.now.now).reset) value note result }
     {
         match self.reset.try_reset(value) {
             Some(left) => self.kept.give(rt, note, room, left),
@@ -96,13 +96,13 @@ impl<
     F: FreeList<T, MadeOrReset<I, R, K>>,
 > SharedStackPool<T> for Arc<StackObjectPool<T, I, R, K, F>> {
     ghost use Rattle.std.specs.Arc.{arc_value};
-    ghost use Rattle.stack_pools.specs.StackPool.{stack_reset, stack_list};
+    ghost use Rattle.stack_pools.specs.StackPool.{stack_view};
 
-    ghost lock = { λ pool. F.lock (stack_list (arc_value pool)) };
+    ghost lock = { λ pool. F.lock (stack_view (arc_value pool)).list };
 
-    ghost leaves = { λ pool. R.leaves (stack_reset (arc_value pool)) };
+    ghost leaves = { λ pool. R.leaves (stack_view (arc_value pool)).reset };
 
-    ghost rejects = { λ pool. R.rejects (stack_reset (arc_value pool)) };
+    ghost rejects = { λ pool. R.rejects (stack_view (arc_value pool)).reset };
 
     fn room(&self) -> Result<Room<T>, PullError> {
         (**self).room()
@@ -113,10 +113,10 @@ impl<
     }
 
     fn give<W: Wait>(&self, rt: &W, note: StackNote<T>, room: Room<T>, value: T) -> StackNote<T>
-        requires { IsNoteOf (F.lock (stack_list (arc_value self.now))) note }
-        ensures of { IsNoteOf (F.lock (stack_list (arc_value self.now))) result }
-        ensures given_back { IsGivenBack (R.leaves (stack_reset (arc_value self.now)))
-            (R.rejects (stack_reset (arc_value self.now))) value note result }
+        requires { IsNoteOf (F.lock (stack_view (arc_value self.now)).list) note }
+        ensures of { IsNoteOf (F.lock (stack_view (arc_value self.now)).list) result }
+        ensures given_back { IsGivenBack (R.leaves (stack_view (arc_value self.now)).reset)
+            (R.rejects (stack_view (arc_value self.now)).reset) value note result }
     {
         match (**self).reset.try_reset(value) {
             Some(left) => (**self).kept.give(rt, note, room, left),
@@ -265,13 +265,14 @@ impl<T: Drop, P: SharedStackPool<T>, W: ReturnPermission<T, P>> Deref for StackR
 
 impl<T: Drop, P: SharedStackPool<T>, W: ReturnPermission<T, P>> DerefMut
     for StackReusable<T, P, W> {
-    ghost use Rattle.std.specs.Borrow.{sem};
-    ghost use Rattle.stack_pools.specs.StackPool.{LendsStackValue};
+    ghost use Rattle.std.specs.Borrow.{Lends, sem};
+    ghost use Rattle.stack_pools.specs.contracts.stack_reusable.StackReusable.{the_row};
 
     ghost deref_mut_gives = { λ reusable value. value ≡ reusable.value };
 
     fn deref_mut(&mut self) -> &mut T
-        ensures* writes_back { sem 𝓛 (LendsStackValue T.row P.row W.row P.SharedStackPool self.entry result) }
+        ensures* writes_back { sem 𝓛 (Lends (the_row T.row P.row W.row P.SharedStackPool) T.row
+            self.entry result (λ value. record self.old { value = value })) }
         ensures shows { result.now ≡ self.old.value }
     {
         &mut self.value

@@ -1,6 +1,5 @@
 //! Proved callers: what they know of a pulled value, an attached one, a refusal and a lock.
 ghost use Rattle.std.specs.Prelude.{◌≡◌, ◌%◌, None, Some, IsOk, IfOk, IfErr, IfSome};
-ghost use Rattle.none_pools.specs.NonePool.{none_init};
 ghost use Rattle.pool_parts.specs.declared.pull_error.PullError.TheVariants.{Memory};
 
 use none_pools::{NoneObjectPool, NoneReusable};
@@ -178,8 +177,8 @@ fn write_made(item: &mut NoneReusable<u32>, value: u32)
 
 /// A closure that always has an answer is never refused.
 fn never_refused<I: Fn() -> Option<u32>>(pool: &NoneObjectPool<u32, I>) -> Result<u32, PullError>
-    requires callable { I.pre (none_init pool.now) }
-    requires answers { I.post (none_init pool.now) None → ⊥ }
+    requires callable { I.pre pool.now }
+    requires answers { I.post pool.now None → ⊥ }
     ensures { IsOk result }
 {
     Ok(*pool.pull()?)

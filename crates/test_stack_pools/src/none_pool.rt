@@ -1,6 +1,5 @@
 //! The pool that keeps nothing: who makes its calls by commands, and worked cases.
 ghost use Rattle.std.specs.Arc.{arc_value};
-ghost use Rattle.none_pools.specs.NonePool.{none_init};
 
 use crate::stack_player::{new_book, refused, says};
 use crate::values::{Book, Part, Value};
@@ -64,7 +63,7 @@ impl Holder {
         owner: &Arc<NoneObjectPool<Value, I>>,
         command: Command,
     ) -> Said
-        requires { I.pre (none_init (arc_value owner.now)) }
+        requires { I.pre (arc_value owner.now) }
     {
         let pulled = match command.word {
             "pull" => owner.pull(),
@@ -87,7 +86,7 @@ fn first_difference<I: Fn() -> Option<Value>>(
     mut holder: Holder,
     mut row: Row,
 ) -> Option<Difference>
-    requires { I.pre (none_init (arc_value owner.now)) }
+    requires { I.pre (arc_value owner.now) }
 {
     for _ in 0..u64::MAX {
         let Some(command) = row.next_command() else {

@@ -1,7 +1,7 @@
 //! What notes of a spin lock pool know.
 ghost use Rattle.std.specs.Prelude.{◌≡◌, Some, IfOk, IfSome};
 ghost use Rattle.stack_pools.specs.StackHistory.{IsNoteOf, GoesOn};
-ghost use Rattle.stack_pools.specs.StackPool.{stack_list};
+ghost use Rattle.stack_pools.specs.StackPool.{stack_view};
 
 use crate::assert_equal::assert_equal;
 use lockfree_object_pool::clean::AnyValue;
@@ -31,7 +31,7 @@ fn a_pull_comes_after_a_note(rt: HostRuntime) -> Result<(), PullError> {
 
 /// Returns a value to a pool.
 fn returned<W: Wait + Copy>(rt: &W, pool: &Numbers, value: u32) -> Option<StackNote<u32>>
-    ensures { IfSome result (λ note. IsNoteOf (Some (stack_list pool.now)) note) }
+    ensures { IfSome result (λ note. IsNoteOf (Some (stack_view pool.now).list) note) }
 {
     let mut item = pool.pull(rt).ok()?;
     *item = value;
@@ -40,15 +40,15 @@ fn returned<W: Wait + Copy>(rt: &W, pool: &Numbers, value: u32) -> Option<StackN
 
 /// Two threads return a value each. The note knows both returns.
 fn both_returned<R: Threads + Wait + Copy + Sync>(rt: &R, pool: &Numbers) -> Option<StackNote<u32>>
-    ensures { IfSome result (λ note. IsNoteOf (Some (stack_list pool.now)) note) }
+    ensures { IfSome result (λ note. IsNoteOf (Some (stack_view pool.now).list) note) }
 {
     let (first, second) = join(
         rt,
         || -> Option<StackNote<u32>>
-            ensures { IfSome result (λ note. IsNoteOf (Some (stack_list pool.entry.now)) note) }
+            ensures { IfSome result (λ note. IsNoteOf (Some (stack_view pool.entry.now).list) note) }
         { returned(rt, pool, 3) },
         || -> Option<StackNote<u32>>
-            ensures { IfSome result (λ note. IsNoteOf (Some (stack_list pool.entry.now)) note) }
+            ensures { IfSome result (λ note. IsNoteOf (Some (stack_view pool.entry.now).list) note) }
         { returned(rt, pool, 4) },
     );
     let (first, second) = (first?, second?);

@@ -10,7 +10,7 @@ ghost use Rattle.pool_parts.specs.Answers.{MayMake, Refuses};
 ghost use Rattle.page_chain.specs.Links.{IsLinkTo};
 ghost use Rattle.pool_parts.specs.Item.{IsFilled};
 ghost use Rattle.pool_parts.specs.declared.page.word.TheConstants.{PAGE_ITEMS};
-ghost use Rattle.pool_parts.specs.Page.{page_opening, page_view};
+ghost use Rattle.pool_parts.specs.Page.{page_view};
 
 use super::directory::{Directory, LinkPlace};
 use super::link_note::LinkNote;
@@ -80,7 +80,7 @@ impl<'c, T: Drop, K: Clean<T>, O: Clean<T>> LinearPage<'c, T, K, O> {
     /// Returns the page with its items.
     pub fn page(&self) -> &'c Page<T, K>
         ensures page { page_view result.now ≡ (shown_page self.now).page }
-        ensures opened { IsFilled PAGE_ITEMS O.meets (page_opening result.now) }
+        ensures opened { IsFilled PAGE_ITEMS O.meets (page_view result.now).opening }
     {
         self.page.owner()
     }

@@ -4,7 +4,7 @@ ghost use Rattle.std.specs.Arc.{arc_value};
 ghost use Rattle.pool_parts.specs.Answers.{MayMake, Refuses};
 ghost use Rattle.pool_parts.specs.Item.{IsFilled};
 ghost use Rattle.pool_parts.specs.declared.page.word.TheConstants.{PAGE_ITEMS};
-ghost use Rattle.pool_parts.specs.Page.{page_opening, page_view};
+ghost use Rattle.pool_parts.specs.Page.{page_view};
 ghost use Rattle.page_chain.specs.WalkSteps.{IsAnsweredBy};
 
 use atomic_table::Badge;
@@ -29,7 +29,7 @@ impl<T, K: Clean<T>, O: Clean<T>> Model for OpenedPage<T, K, O> {
     ghost use Rattle.std.specs.Arc.{arc_value};
     ghost use Rattle.std.specs.declared.alloc.Global.{Global};
     ghost use Rattle.std.specs.declared.sync.Arc.{Arc};
-    ghost use Rattle.pool_parts.specs.Page.{page_opening};
+    ghost use Rattle.pool_parts.specs.Page.{page_view};
     ghost use Rattle.pool_parts.specs.Item.{IsFilled};
     ghost use Rattle.pool_parts.specs.declared.page.shared_page.Page.{Page};
     ghost use Rattle.pool_parts.specs.declared.page.word.TheConstants.{PAGE_ITEMS};
@@ -39,13 +39,13 @@ impl<T, K: Clean<T>, O: Clean<T>> Model for OpenedPage<T, K, O> {
     ghost view = { λ opened. opened.page };
 
     ghost invariant = { λ opened. IsFilled PAGE_ITEMS O.meets
-        (page_opening (arc_value opened.page)) };
+        (page_view (arc_value opened.page)).opening };
 }
 
 impl<T, K: Clean<T>, O: Clean<T>> OpenedPage<T, K, O> {
     /// Records that the page opened with values that meet the condition.
     pub(super) fn new(page: Arc<Page<T, K>>) -> OpenedPage<T, K, O>
-        requires { IsFilled PAGE_ITEMS O.meets (page_opening (arc_value page)) }
+        requires { IsFilled PAGE_ITEMS O.meets (page_view (arc_value page)).opening }
         ensures { result ≡ page }
     {
         OpenedPage {
@@ -57,7 +57,7 @@ impl<T, K: Clean<T>, O: Clean<T>> OpenedPage<T, K, O> {
     /// Returns the page, with its owners.
     pub(super) fn owner(&self) -> &Arc<Page<T, K>>
         ensures page { result.now ≡ self.now }
-        ensures opened { IsFilled PAGE_ITEMS O.meets (page_opening (arc_value result.now)) }
+        ensures opened { IsFilled PAGE_ITEMS O.meets (page_view (arc_value result.now)).opening }
     {
         &self.page
     }

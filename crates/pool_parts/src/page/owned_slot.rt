@@ -35,7 +35,7 @@ impl<T, K: Clean<T>> Model for OwnedSlot<T, K> {
     ghost use Rattle.std.specs.Prelude.{◌≡◌, ◌<◌};
     ghost use Rattle.std.specs.Arc.{arc_value};
     ghost use Rattle.pool_parts.specs.Item.{SlotView};
-    ghost use Rattle.pool_parts.specs.Page.{page_identity, page_opening, held_item, view_of};
+    ghost use Rattle.pool_parts.specs.Page.{held_item, view_of, page_view};
     ghost use Rattle.pool_parts.specs.declared.page.word.TheConstants.{PAGE_ITEMS};
 
     ghost Value = { SlotView T };
@@ -44,11 +44,11 @@ impl<T, K: Clean<T>> Model for OwnedSlot<T, K> {
         record {
           item = held_item slot.holding slot.value;
           known = view_of slot.holding.seat;
-          opening = page_opening (arc_value slot.page);
+          opening = (page_view (arc_value slot.page)).opening;
         } };
 
     ghost invariant = { λ slot.
-        (slot.holding.seat.table_id ≡ page_identity (arc_value slot.page))
+        (slot.holding.seat.table_id ≡ (page_view (arc_value slot.page)).identity)
         × (slot.holding.number < PAGE_ITEMS) };
 }
 
@@ -105,13 +105,14 @@ impl<T, K: Clean<T>> Deref for OwnedSlot<T, K> {
 }
 
 impl<T, K: Clean<T>> DerefMut for OwnedSlot<T, K> {
-    ghost use Rattle.std.specs.Borrow.{sem};
-    ghost use Rattle.pool_parts.specs.Slot.{LendsOwnedSlotValue};
+    ghost use Rattle.std.specs.Borrow.{Lends, sem};
+    ghost use Rattle.pool_parts.specs.contracts.page.owned_slot.OwnedSlot.{the_row};
 
     ghost deref_mut_gives = { λ slot value. value ≡ slot.item.value };
 
     fn deref_mut(&mut self) -> &mut T
-        ensures* writes_back { sem 𝓛 (LendsOwnedSlotValue T.row K.row K.Clean self.entry result) }
+        ensures* writes_back { sem 𝓛 (Lends (the_row T.row K.row K.Clean) T.row self.entry result
+            (λ value. record self.old { item = record self.old.item { value = value } })) }
         ensures shows { result.now ≡ self.old.item.value }
     {
         &mut self.value

@@ -40,7 +40,7 @@ impl<T: Drop, K: Clean<T>> Drop for Page<T, K> {
 impl<T, K: Clean<T>> Page<T, K> {
     ghost use Rattle.pool_parts.specs.Answers.{MayMake, Refuses};
     ghost use Rattle.pool_parts.specs.Slot.{IsAnswerOf, ReadsOnce, answer_view};
-    ghost use Rattle.pool_parts.specs.Page.{held_item, HoldsSame, IsReturned, IsNoteOf, HasLearned, page_identity, page_opening, page_view, view_of};
+    ghost use Rattle.pool_parts.specs.Page.{held_item, HoldsSame, IsReturned, IsNoteOf, HasLearned, page_view, view_of};
     ghost use Rattle.pool_parts.specs.Item.{IsPageItem, IsPulled, IsFilled, new_user};
     ghost use Rattle.pool_parts.specs.PageRule.{MayTake, IsOutNow};
     ghost use Rattle.pool_parts.specs.Ledger.{EachReturned};
@@ -64,7 +64,7 @@ impl<T, K: Clean<T>> Page<T, K> {
         ensures refused { IfErr result (Refuses ⊤ (I.post init.now None) ⊥) }
         ensures opened { IfOk result
             (λ page. IsFilled PAGE_ITEMS (λ made. I.post init.now (Some made))
-            (page_opening page)) }
+            (page_view page).opening) }
     {
         let items = Items::new(alloc, PAGE_ITEMS, &[u32::MAX as u64], 0, init)?;
         Ok(Page { items })
@@ -85,10 +85,10 @@ impl<T, K: Clean<T>> Page<T, K> {
         ensures item { IfOk result (λ found. IfSome found
             (λ slot. IsPageItem K.meets slot.item)) }
         ensures pulled { IfOk result (λ found. IfSome found
-            (λ slot. IsPulled (page_identity self.now)
-            (new_user (page_opening self.now) slot.item.holder) slot.item)) }
+            (λ slot. IsPulled (page_view self.now).identity
+            (new_user (page_view self.now).opening slot.item.holder) slot.item)) }
         ensures opening { IfOk result (λ found. IfSome found
-            (λ slot. slot.opening ≡ page_opening self.now)) }
+            (λ slot. slot.opening ≡ (page_view self.now).opening)) }
         ensures steps { IfOk result (λ found. IfSome found (λ slot. ReadsOnce 0 0 slot.known)) }
     {
         let pass = PullPass::new();
@@ -110,7 +110,7 @@ impl<T, K: Clean<T>> Page<T, K> {
     ) -> Result<Allocated<'s, 'p, T, K>, PullError>
         ensures succeeds { IsOk result }
         ensures answer { IfOk result (λ answer. IsAnswerOf K.meets (page_view self.now)
-            (new_user (page_opening self.now) (answer_view answer).user) answer) }
+            (new_user (page_view self.now).opening (answer_view answer).user) answer) }
         ensures steps { IfOk result (λ answer. ReadsOnce 0 0 (answer_view answer)) }
     {
         Ok(self.take(pass).answer)
@@ -120,7 +120,7 @@ impl<T, K: Clean<T>> Page<T, K> {
     /// full.
     pub fn take<'s, 'p>(&'s self, pass: &'p PullPass) -> PageAnswer<'s, 'p, T, K>
         ensures answer { IsAnswerOf K.meets (page_view self.now)
-            (new_user (page_opening self.now) (answer_view result.answer).user) result.answer }
+            (new_user (page_view self.now).opening (answer_view result.answer).user) result.answer }
         ensures steps { ReadsOnce 0 0 (answer_view result.answer) }
     {
         let (word, seat) = self.items.look(0);
@@ -138,7 +138,7 @@ impl<T, K: Clean<T>> Page<T, K> {
         pass: &'p PullPass,
         note: PageNote<T>,
     ) -> Result<Allocated<'s, 'p, T, K>, PullError>
-        requires page { note.seat.table_id ≡ page_identity self.now }
+        requires page { note.seat.table_id ≡ (page_view self.now).identity }
         ensures succeeds { IsOk result }
         ensures answer { IfOk result
             (IsAnswerOf K.meets (page_view self.now) (view_of note.seat)) }
@@ -155,7 +155,7 @@ impl<T, K: Clean<T>> Page<T, K> {
         pass: &'p PullPass,
         note: PageNote<T>,
     ) -> Allocated<'s, 'p, T, K>
-        requires page { note.seat.table_id ≡ page_identity self.now }
+        requires page { note.seat.table_id ≡ (page_view self.now).identity }
         ensures answer { IsAnswerOf K.meets (page_view self.now) (view_of note.seat) result }
         ensures steps { ReadsOnce (view_of note.seat).loads (view_of note.seat).tries
             (answer_view result) }
@@ -169,7 +169,7 @@ impl<T, K: Clean<T>> Page<T, K> {
     ///
     /// It knows some prefix of the page's history; which one, no contract can say.
     pub fn note(&self) -> PageNote<T>
-        ensures { IsNoteOf (page_identity self.now) (page_opening self.now) result }
+        ensures { IsNoteOf (page_view self.now).identity (page_view self.now).opening result }
     {
         self.items.note()
     }
@@ -180,8 +180,8 @@ impl<T, K: Clean<T>> Page<T, K> {
     /// A witness comes from another thread's slot or note. So a thread that received it can
     /// conclude what happened before.
     pub fn tell(&self, note: &mut PageNote<T>, other: Witness<T>)
-        requires note { note.old.seat.table_id ≡ page_identity self.now }
-        requires other { other.seat.table_id ≡ page_identity self.now }
+        requires note { note.old.seat.table_id ≡ (page_view self.now).identity }
+        requires other { other.seat.table_id ≡ (page_view self.now).identity }
         ensures { HasLearned note.old other note.new }
     {
         self.items.tell(note, other);
@@ -189,7 +189,7 @@ impl<T, K: Clean<T>> Page<T, K> {
 
     /// Returns what the holder of an item of this page knows, for another user. It costs one load.
     pub fn witness(&self, holding: &mut Holding<T>) -> Witness<T>
-        requires { holding.old.seat.table_id ≡ page_identity self.now }
+        requires { holding.old.seat.table_id ≡ (page_view self.now).identity }
         ensures page { result.seat.table_id ≡ holding.old.seat.table_id }
         ensures history { (view_of result.seat).operations ≡ (view_of holding.old.seat).operations }
         ensures same_page { holding.new.seat.table_id ≡ holding.old.seat.table_id }
@@ -201,8 +201,8 @@ impl<T, K: Clean<T>> Page<T, K> {
 
     /// Ensures that two holders of items of this page have two items. It costs seven loads.
     pub fn are_two(&self, one: &mut Holding<T>, other: &mut Holding<T>)
-        requires one { one.old.seat.table_id ≡ page_identity self.now }
-        requires other { other.old.seat.table_id ≡ page_identity self.now }
+        requires one { one.old.seat.table_id ≡ (page_view self.now).identity }
+        requires other { other.old.seat.table_id ≡ (page_view self.now).identity }
         ensures differ { one.old.number ≢ other.old.number }
         ensures same_one { HoldsSame one.old one.new }
         ensures same_other { HoldsSame other.old other.new }
@@ -217,7 +217,7 @@ impl<T, K: Clean<T>> Page<T, K> {
         word: u32,
         mut seat: UserSeat<T>,
     ) -> PageAnswer<'s, 'p, T, K>
-        requires page { seat.table_id ≡ page_identity self.now }
+        requires page { seat.table_id ≡ (page_view self.now).identity }
         requires ready { MayTake seat.me }
         requires from_now { seat.me.0.at_load ≡ seat.me.0.operations }
         requires found { (id : ℕ) → id < PAGE_ITEMS → bit_at word id ≡ 0
@@ -279,7 +279,7 @@ impl<T, K: Clean<T>> Page<T, K> {
 
     /// Returns an item to this page by what its holder has, with a value.
     pub fn give(&self, holding: Holding<T>, value: T) -> Returned<T>
-        requires of_page { holding.seat.table_id ≡ page_identity self.now }
+        requires of_page { holding.seat.table_id ≡ (page_view self.now).identity }
         requires in_page { holding.number < PAGE_ITEMS }
         requires meets { K.meets value }
         ensures returned { IsReturned (held_item holding value) result.note }

@@ -1,7 +1,7 @@
 //! A slot: an item in use, with a borrow of its page.
 ghost use Rattle.std.specs.Prelude.{◌≡◌, ◌≢◌, ◌<◌};
 ghost use Rattle.std.specs.Arc.{arc_value};
-ghost use Rattle.pool_parts.specs.Page.{page_identity};
+ghost use Rattle.pool_parts.specs.Page.{page_view};
 ghost use Rattle.pool_parts.specs.declared.page.word.TheConstants.{PAGE_ITEMS};
 
 use super::holding::{Holding, PulledItem};
@@ -39,7 +39,7 @@ pub struct PageSlot<'s, T, K: Clean<T>> {
 impl<'s, T, K: Clean<T>> Model for PageSlot<'s, T, K> {
     ghost use Rattle.std.specs.Prelude.{◌≡◌, ◌<◌};
     ghost use Rattle.pool_parts.specs.Item.{SlotView};
-    ghost use Rattle.pool_parts.specs.Page.{page_identity, page_opening, held_item, view_of};
+    ghost use Rattle.pool_parts.specs.Page.{held_item, view_of, page_view};
     ghost use Rattle.pool_parts.specs.declared.page.word.TheConstants.{PAGE_ITEMS};
 
     ghost Value = { SlotView T };
@@ -48,16 +48,16 @@ impl<'s, T, K: Clean<T>> Model for PageSlot<'s, T, K> {
         record {
           item = held_item slot.holding slot.value;
           known = view_of slot.holding.seat;
-          opening = page_opening slot.page.now;
+          opening = (page_view slot.page.now).opening;
         } };
 
     ghost invariant = { λ slot.
-        (slot.holding.seat.table_id ≡ page_identity slot.page.now)
+        (slot.holding.seat.table_id ≡ (page_view slot.page.now).identity)
         × (slot.holding.number < PAGE_ITEMS) };
 }
 
 impl<'s, T, K: Clean<T>> PageSlot<'s, T, K> {
-    ghost use Rattle.pool_parts.specs.Page.{held_item, held_page, page_opening, view_of};
+    ghost use Rattle.pool_parts.specs.Page.{held_item, held_page, view_of, page_view};
 
     /// Returns the number of the item in its page.
     pub fn id(&self) -> PageId
@@ -69,8 +69,8 @@ impl<'s, T, K: Clean<T>> PageSlot<'s, T, K> {
 
     /// Returns the item's page.
     pub fn page(&self) -> &'s Page<T, K>
-        ensures page { page_identity result.now ≡ self.now.item.page }
-        ensures opening { page_opening result.now ≡ self.now.opening }
+        ensures page { (page_view result.now).identity ≡ self.now.item.page }
+        ensures opening { (page_view result.now).opening ≡ self.now.opening }
     {
         self.page
     }
@@ -132,8 +132,8 @@ impl<'s, T, K: Clean<T>> PageSlot<'s, T, K> {
 
     /// Returns the same item with an owner of the page in place of the borrow.
     pub fn into_owned(self, page: Arc<Page<T, K>>) -> OwnedSlot<T, K>
-        requires page { self.item.page ≡ page_identity (arc_value page) }
-        requires opening { self.opening ≡ page_opening (arc_value page) }
+        requires page { self.item.page ≡ (page_view (arc_value page)).identity }
+        requires opening { self.opening ≡ (page_view (arc_value page)).opening }
         ensures { result ≡ self.entry }
     {
         let PageSlot {
@@ -160,13 +160,18 @@ impl<T, K: Clean<T>> Deref for PageSlot<'_, T, K> {
 }
 
 impl<T, K: Clean<T>> DerefMut for PageSlot<'_, T, K> {
-    ghost use Rattle.std.specs.Borrow.{sem};
-    ghost use Rattle.pool_parts.specs.Slot.{LendsSlotValue};
+    ghost use mir.Syntax.{named};
+    ghost use Rattle.std.specs.Prelude.{[]};
+    ghost use Rattle.std.specs.Borrow.{Lends, sem};
+    ghost use Rattle.pool_parts.specs.contracts.page.slot.PageSlot.{the_row};
 
     ghost deref_mut_gives = { λ slot value. value ≡ slot.item.value };
 
     fn deref_mut(&mut self) -> &mut T
-        ensures* writes_back { sem 𝓛 (LendsSlotValue T.row K.row K.Clean self.entry result) }
+        ensures* writes_back { sem 𝓛
+            (Lends (the_row (record { mir = named 1; lft = [] }) T.row K.row K.Clean) T.row
+            self.entry result
+            (λ value. record self.old { item = record self.old.item { value = value } })) }
         ensures shows { result.now ≡ self.old.item.value }
     {
         &mut self.value

@@ -1,7 +1,6 @@
 //! How each pool is asked for an item.
 ghost use Rattle.std.specs.Prelude.{⊤};
 ghost use Rattle.std.specs.Arc.{arc_value};
-ghost use Rattle.lockfree_object_pool.specs.NonePool.{none_init};
 
 use super::held::{Given, Place, Source};
 use super::item::{Item, Numbered, Restore};
@@ -94,7 +93,7 @@ impl<F: FreeList<Item, StackedItems>, R: Wait + Copy> Gives<R> for Arc<Stacked<F
 impl<I: Fn() -> Option<Item>, R> Gives<R> for &NoneObjectPool<Item, I> {
     type Came = NoneReusable<Item>;
 
-    ghost may_give = { λ pool. I.pre (none_init pool.now) };
+    ghost may_give = { λ pool. I.pre pool.now };
 
     fn give(&self, _rt: &R, source: Source) -> Option<Given<Self::Came>> {
         let item = match source {
@@ -108,7 +107,7 @@ impl<I: Fn() -> Option<Item>, R> Gives<R> for &NoneObjectPool<Item, I> {
 impl<I: Fn() -> Option<Item>, R> Gives<R> for Arc<NoneObjectPool<Item, I>> {
     type Came = NoneReusable<Item>;
 
-    ghost may_give = { λ pool. I.pre (none_init (arc_value pool)) };
+    ghost may_give = { λ pool. I.pre (arc_value pool) };
 
     fn give(&self, _rt: &R, source: Source) -> Option<Given<Self::Came>> {
         let item = match source {

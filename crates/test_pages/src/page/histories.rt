@@ -2,7 +2,7 @@
 //! page.
 ghost use Rattle.std.specs.Prelude.{◌≡◌, ◌⊎◌, ℕ, ◌∷◌, IfSome};
 ghost use Rattle.pool_parts.specs.Page.{view_of};
-ghost use Rattle.page_chain.specs.Page.{page_identity};
+ghost use Rattle.page_chain.specs.Page.{page_view};
 ghost use Rattle.page_chain.specs.Ledger.{History, IsPrefixOf};
 ghost use Rattle.pool_parts.specs.declared.page.history.Operation.TheVariants.{Return};
 
@@ -28,8 +28,8 @@ fn pulled_after<'s>(
     page: &'s NumberPage,
     note: PageNote<u32>,
 ) -> Option<PageSlot<'s, u32, AnyValue>>
-    requires { note.seat.table_id ≡ page_identity page.now }
-    ensures page { IfSome result (λ slot. slot.item.page ≡ page_identity page.now) }
+    requires { note.seat.table_id ≡ (page_view page.now).identity }
+    ensures page { IfSome result (λ slot. slot.item.page ≡ (page_view page.now).identity) }
     ensures after { IfSome result (λ slot.
         IsPrefixOf (view_of note.seat).operations slot.item.history) }
 {
@@ -42,7 +42,7 @@ fn pulled_after<'s>(
 
 /// Returns 5, and tells it by a note: the return is the last operation that the note knows.
 fn returned_five(page: &NumberPage) -> Option<PageNote<u32>>
-    ensures page { IfSome result (λ note. note.seat.table_id ≡ page_identity page.now) }
+    ensures page { IfSome result (λ note. note.seat.table_id ≡ (page_view page.now).identity) }
     ensures last { IfSome result (λ note.
         (user id : ℕ) × (before : History ℕ) × ((view_of note.seat).operations ≡ Return user id 5 ∷
         before)) }
@@ -61,20 +61,18 @@ fn handed_on<'s, R: Threads + Sync>(
 ) -> Option<(PageSlot<'s, u32, AnyValue>, PageNote<u32>)>
     ensures after { IfSome result (λ seen. (user id : ℕ) × (before : History ℕ)
         × IsPrefixOf (Return user id 5 ∷ before) seen.0.item.history) }
-    ensures slot_page { IfSome result (λ seen. seen.0.item.page ≡ page_identity page.now) }
-    ensures note_page { IfSome result (λ seen. seen.1.seat.table_id ≡ page_identity page.now) }
+    ensures slot_page { IfSome result (λ seen. seen.0.item.page ≡ (page_view page.now).identity) }
+    ensures note_page { IfSome result (λ seen. seen.1.seat.table_id ≡ (page_view page.now).identity) }
 {
     let (first, second) = thread::join(
         rt,
         || -> Option<PageNote<u32>>
-            ensures page { IfSome result (λ note. note.seat.table_id ≡ page_identity
-                page.entry.now) }
+            ensures page { IfSome result (λ note. note.seat.table_id ≡ (page_view page.entry.now).identity) }
             ensures last { IfSome result (λ note. (user id : ℕ) × (before : History ℕ)
                 × ((view_of note.seat).operations ≡ Return user id 5 ∷ before)) }
         { returned_five(page) },
         || -> Option<PageNote<u32>>
-            ensures page { IfSome result (λ note. note.seat.table_id ≡ page_identity
-                page.entry.now) }
+            ensures page { IfSome result (λ note. note.seat.table_id ≡ (page_view page.entry.now).identity) }
         { returned_five(page) },
     );
     let slot = pulled_after(page, first?)?;
@@ -84,9 +82,9 @@ fn handed_on<'s, R: Threads + Sync>(
 /// What two users of one page know are prefixes of one history, so one of them is a prefix of the
 /// other.
 fn compared(page: &NumberPage, one: PageNote<u32>, other: PageNote<u32>) -> PageNote<u32>
-    requires one { one.seat.table_id ≡ page_identity page.now }
-    requires other { other.seat.table_id ≡ page_identity page.now }
-    ensures page { result.seat.table_id ≡ page_identity page.now }
+    requires one { one.seat.table_id ≡ (page_view page.now).identity }
+    requires other { other.seat.table_id ≡ (page_view page.now).identity }
+    ensures page { result.seat.table_id ≡ (page_view page.now).identity }
     ensures compared { IsPrefixOf (view_of one.seat).operations (view_of other.seat).operations
         ⊎ IsPrefixOf (view_of other.seat).operations (view_of one.seat).operations }
 {
@@ -98,8 +96,8 @@ fn compared(page: &NumberPage, one: PageNote<u32>, other: PageNote<u32>) -> Page
 /// A holder leaves a witness of what it knows, and a note is told: the pull stands in the note's
 /// history.
 fn told_of_pull(page: &NumberPage, slot: &mut PageSlot<'_, u32, AnyValue>) -> PageNote<u32>
-    requires { slot.old.item.page ≡ page_identity page.now }
-    ensures page { result.seat.table_id ≡ page_identity page.now }
+    requires { slot.old.item.page ≡ (page_view page.now).identity }
+    ensures page { result.seat.table_id ≡ (page_view page.now).identity }
     ensures knows { IsPrefixOf slot.old.item.history (view_of result.seat).operations }
     ensures same_item { slot.new.item ≡ slot.old.item }
 {

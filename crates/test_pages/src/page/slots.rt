@@ -2,7 +2,7 @@
 ghost use Rattle.std.specs.Prelude.{◌≡◌, IfSome};
 ghost use Rattle.page_chain.specs.Slot.{IsAllOut};
 ghost use Rattle.page_chain.specs.Item.{new_user};
-ghost use Rattle.page_chain.specs.Page.{page_identity, page_opening, view_of};
+ghost use Rattle.page_chain.specs.Page.{view_of, page_view};
 ghost use Rattle.pool_parts.specs.declared.page.word.TheConstants.{PAGE_ITEMS};
 
 use super::{item, owned_item};
@@ -79,8 +79,8 @@ fn own_first(page: Arc<Page<u32, Zero>>) -> Option<u32>
 
 /// What tells a pull that a page is full is of that page, and has all of its ids.
 fn full_of<'p>(page: &Page<u32, Zero>, pass: &'p PullPass) -> Option<FullSeen<'p, u32>>
-    ensures { IfSome result (λ seen. IsAllOut PAGE_ITEMS (page_identity page.now)
-        (new_user (page_opening page.now) seen.known.user) seen) }
+    ensures { IfSome result (λ seen. IsAllOut PAGE_ITEMS (page_view page.now).identity
+        (new_user (page_view page.now).opening seen.known.user) seen) }
 {
     match page.try_alloc(pass) {
         Ok(Allocated::Full(seen)) => Some(seen),

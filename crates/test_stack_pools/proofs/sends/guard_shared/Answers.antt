@@ -1,8 +1,11 @@
-use denote.Exit.{no}
-use denote.Param.Send.{arg_sync, param_sync}
+use mir.Syntax.{named}
+use denote.Param.{param}
 use Rattle.stack_pools.proofs.GuardShared.{guard_sync}
 use Rattle.test_stack_pools.proofs.sends.guard_shared.Goals as goal
 
 pub shared-requires-sync-X : goal.shared-requires-sync-X
-shared-requires-sync-X g c κs within = param_sync _ _ (arg_sync _ no _ (guard_sync _ _ c.type_bounds.send-T
-    c.type_bounds.sync-T))
+shared-requires-sync-X g c κs within = record {
+  shared =
+      (guard_sync (record { mir = named 0; lft = _ }) (param 0 g.row.T) c.type_bounds.send-T
+      c.type_bounds.sync-T).shared;
+}

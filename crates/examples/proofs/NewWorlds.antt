@@ -7,7 +7,7 @@ use Rattle.pool_world.specs.declared.interleave.event.Seen.{Seen}
 use Rattle.pool_world.specs.declared.run_error.RunError.{RunError}
 use Rattle.pool_world.specs.World.Headline.{IsNew, IsRun, Past, RunsEvents}
 use Rattle.pool_world.specs.World.State.{WorldState}
-use Rattle.world_example.specs.Worlds.{AnswersAsOnePool}
+use Rattle.examples.specs.Agents.{AnswersAsOnePool}
 
 module _ {T R : Type 0} (leaves : R → T → T → Type 0) {opening start end : WorldState T} {kept reset : R}
     {events : List (Event T)} {before seen : List Seen} {result : Result (Unit {0}) RunError} where
