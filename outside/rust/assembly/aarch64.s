@@ -1,6 +1,6 @@
 // SPDX-License-Identifier: BSL-1.0
 // Kundratu's pool of places: the code that the checker proved and built of crates/fixed_pool_c.
-// Checker: rattle-kit-13b logic dac8208d650f15bf
+// Checker: rattle-kit-13f logic dac8208d650f15bf
 // It said: logic=proved functions=72 axioms=3 target=aarch64-unknown-linux-gnu sum=dac8208d650f15bf
 // outside/assembly/write writes this file, and outside/run compares it with what is proved anew.
 
