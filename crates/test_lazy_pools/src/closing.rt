@@ -37,6 +37,13 @@ fn each_pull_of_a_closed_pool_fails(rt: HostRuntime) {
          refused closed; refused closed; refused closed; refused closed; refused closed; \
          refused closed; yes; made 1 0 0; counts 1 1 1",
     );
+    plays(
+        &rt,
+        33,
+        "close; pull; near; try; owned_wait; timed_with; fill 33; stands; counts",
+        "done; refused closed; refused closed; refused closed; refused closed; refused closed; \
+         refused closed; made 0 0 0; counts 0 0 0",
+    );
 }
 
 /// Only a closing closes: a full pool says that it is full.

@@ -47,6 +47,7 @@ impl HasParts for Parts {
 
 fn comes_back_clean<T: HasParts>(rt: &impl Abort, alloc: Global) {
     let pool = LazyPool::<T>::with_recycler(alloc, 1).expect(rt, "a pool is made");
+    assert_eq!(*rt; pool.made(), 0);
     for _ in 0..3 {
         let mut item = pool.pull().expect(rt, "an item is free");
         assert_eq!(*rt; item.lengths(), [0; 5]);

@@ -16,8 +16,8 @@ fn a_return_between_a_try_and_its_sleep_is_found(rt: HostRuntime) {
     plays(
         &rt,
         1,
-        "pull; then_return 0 1000 2; timed; looks; stands",
-        "pulled 0 0; set; pulled 0 0; looks 2 1; made 1 1 0",
+        "pull; then_return 0 1000 2; timed; looks; stands; then_return 0 1000 2; long_timed; looks",
+        "pulled 0 0; set; pulled 0 0; looks 2 1; made 1 1 0; set; pulled 0 0; looks 2 1",
     );
 }
 
@@ -53,9 +53,9 @@ fn nothing_is_made_after_the_limit(rt: HostRuntime) {
         &rt,
         1,
         "pull; then_discard 0 6000 2; timed; looks; counts; \
-         pull; then_discard 0 6000 2; timed_with; looks; counts; stands",
+         pull; then_discard 0 6000 2; timed_with; looks; counts; stands; fill 1; counts",
         "pulled 0 0; set; refused limit; looks 3 1; counts 1 0 1; \
-         pulled 0 1; set; refused limit; looks 3 1; counts 2 0 2; made 1 0 0",
+         pulled 0 1; set; refused limit; looks 3 1; counts 2 0 2; made 1 0 0; filled; counts 3 0 2",
     );
 }
 

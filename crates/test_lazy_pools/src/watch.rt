@@ -12,6 +12,9 @@ use std::time::{Clock, Duration};
 /// The limit of each timed pull, in seconds.
 pub const LIMIT: u64 = 10;
 
+/// How many milliseconds the clock shows at its first look.
+const START: u64 = 1;
+
 /// How many seconds no call takes that doesn't sleep.
 const MOST_SECONDS: u64 = 3;
 
@@ -23,7 +26,7 @@ pub enum Event<'p> {
     /// An item is returned.
     Return(Item<'p>),
     Discard(Item<'p>),
-    /// An item is returned, and one is pulled.
+    /// An item is reset and returned, as a worker does it, and one is pulled.
     Swap(Item<'p>),
     /// The pool is filled with so many items.
     Fill(usize),
@@ -38,7 +41,7 @@ impl<'p> Event<'p> {
             Event::Return(item) => drop(item),
             Event::Discard(item) => item.discard(),
             Event::Swap(item) => {
-                drop(item);
+                item.reset_first();
                 return borrowed(pool.pull()).ok();
             }
             Event::Fill(items) => drop(pool.fill(items)),
@@ -171,7 +174,7 @@ impl<'p, R: Wait + Clock> Clock for Watch<'p, R> {
         if look == self.fails.get() {
             return Err(io::Error::from(ErrorKind::InvalidData));
         }
-        Ok(Duration::from_millis(passed))
+        Ok(Duration::from_millis(passed.wrapping_add(START)))
     }
 
     fn since_1970(&self) -> io::Result<Duration> {

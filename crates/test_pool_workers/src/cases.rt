@@ -49,6 +49,7 @@ fn of_two_items_one_is_kept_and_the_other_is_returned(rt: HostRuntime) {
     );
     let returned = ("stands; counts", "made 2 uses 0; calls 2 resets 6 drops 0");
     plays(&rt, Kind::Lazy(2), &ONE, &[kept, returned]);
+    plays(&rt, Kind::Lazy(2), &[Some(1)], &[kept, returned]);
 }
 
 /// The second item is dropped first. It is kept, and the first one is returned.

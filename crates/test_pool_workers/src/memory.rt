@@ -75,10 +75,12 @@ fn calls_of_a_worker_with_room_ask_for_no_memory(rt: HostRuntime) {
     assert_equal(&rt, pools.book.counts().resets, 12);
 }
 
-/// A worker with room is made where its memory isn't refused, and keeps nothing where it is.
+/// A worker with room is made where its memory isn't refused, and else there is none.
 #[test]
 fn a_worker_with_room_is_made_where_memory_was_refused(rt: HostRuntime) {
     let pools = again!(open(rt.alloc())).expect(&rt, "one request alone is refused");
+    let without_end = Worker::with_room(rt.alloc(), pools.fixed.near(), usize::MAX);
+    assert_equal(&rt, without_end.err(), Some(PullError::Memory));
     let Ok(worker) = Worker::with_room(rt.alloc(), pools.fixed.near(), 2) else {
         return;
     };
