@@ -1,10 +1,10 @@
 //! One who does with a lazy pool what commands say.
 //!
 //! Each way to pull is a word: `pull`, `near`, `try`, `owned`, `wait`, `owned_wait`, `timed`,
-//! `owned_timed`, `long_timed` (which has the longest limit), and by a closure of the call `with` and
-//! so on. Its answer is `pulled NUMBER SERIAL`: the item's number in the pool, and how many values
-//! were made before its value. `return 0`, `give_back 0`, `reset_first 0`, `discard 0`, `detach 0`
-//! and `forget 0` are what item 0 leaves its holder by.
+//! `owned_timed`, `long_timed` by the longest limit, and by a closure of the call `with` and so on.
+//! Its answer is `pulled NUMBER SERIAL`: the item's number in the pool, and how many values were made
+//! before its value. `return 0`, `give_back 0`, `reset_first 0`, `discard 0`, `detach 0` and
+//! `forget 0` are what item 0 leaves its holder by.
 //!
 //! `clock STEP FAILS` sets the clock of the next timed pull that waits (see `watch`). What happens at
 //! look 2 of it, with 1,000 milliseconds between two looks, say `then_return 0 1000 2` and its like;
