@@ -327,8 +327,11 @@ fn a_pool_ends_with_its_items() {
     let mut next = 0..;
     let pool = Pool::<u32>::new(70, || next.next().expect("there are more"), |_| ());
     let pool = pool.expect("there is memory");
-    *pool.pull().expect("one is free") += 100;
-    let items = pool.into_inner();
-    assert_eq!(items.len(), 70);
-    assert_eq!(items.into_iter().sum::<u32>(), (0..70).sum::<u32>() + 100);
+    let mut item = pool.pull().expect("one is free");
+    let number = item.number();
+    *item += 100;
+    drop(item);
+    let mut items = pool.into_inner();
+    items[number] -= 100;
+    assert!(items.into_iter().eq(0..70), "by their numbers");
 }
