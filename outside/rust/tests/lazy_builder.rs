@@ -156,6 +156,28 @@ fn an_item_that_is_too_old_is_dropped_when_it_is_pulled_or_comes_back() {
     assert!((0..100).all(|_| turn(&pool) == 0));
 }
 
+#[test]
+fn an_attached_item_is_not_as_old_as_its_pool() {
+    let pool = LazyPool::builder(1).init(counter()).life_time(SOON).build();
+    let pool = pool.expect("there is memory");
+    thread::sleep(SOON);
+    let begun = Instant::now();
+    assert!(pool.attach(70).is_ok());
+    assert!(pool.try_pull().as_deref() == Some(&70) || begun.elapsed() >= SOON);
+}
+
+/// It is noted when an item comes back. That makes it no younger.
+#[test]
+fn an_item_in_use_is_too_old_in_the_end() {
+    let pool = LazyPool::builder(1).init(counter()).life_time(SOON).idle_time(HOUR).build();
+    let pool = pool.expect("there is memory");
+    let turns = (0..4).map(|_| {
+        thread::sleep(SOON / 2);
+        turn(&pool)
+    });
+    assert_ne!(turns.last(), Some(0));
+}
+
 /// An item that is too old is dropped without a reset.
 #[test]
 fn an_item_that_is_too_old_is_not_reset() {
@@ -271,6 +293,15 @@ fn each_event_is_told() {
     assert_eq!(take(), [Event::Pulled; 2]);
     pool.clear();
     assert_eq!((pool.fill(1), take()), (Ok(()), vec![Event::Made]));
+    let by_task = |made| {
+        let mut context = Context::from_waker(Waker::noop());
+        let pulled = pin!(pool.pull_async_with(async move { made })).poll(&mut context);
+        pulled.is_ready().then(take)
+    };
+    assert_eq!(by_task(Err("on purpose")), Some(vec![Event::Pulled]));
+    pool.clear();
+    assert_eq!(by_task(Err("on purpose")), Some(vec![Event::Failed]));
+    assert_eq!(by_task(Ok(9)), Some(vec![Event::Made, Event::Pulled]));
 }
 
 /// It is told once, however often the task is polled.

@@ -2,10 +2,13 @@
 use super::plain::{Kind, Model};
 use kundratu_pool::{LazyOwnedReusable, LazyPool, LazyReusable, LinearObjectPool};
 use kundratu_pool::{MutexObjectPool, NoneObjectPool, Pool, PullError, SpinLockObjectPool};
+use std::future::Future;
 use std::ops::DerefMut;
 use std::panic::resume_unwind;
+use std::pin::pin;
 use std::sync::atomic::{AtomicUsize, Ordering::SeqCst};
 use std::sync::{Arc, Mutex, OnceLock};
+use std::task::{Context, Poll, Waker};
 use std::time::Duration;
 use std::{mem, thread};
 
@@ -56,6 +59,17 @@ pub enum How {
     Over,
     Long,
     Ever,
+    /// As a task that is ready at once. With a future, that makes the item.
+    Task,
+    With,
+}
+
+/// Polls a task to which a place is free.
+fn ready<F: Future>(task: F) -> F::Output {
+    match pin!(task).poll(&mut Context::from_waker(Waker::noop())) {
+        Poll::Ready(output) => output,
+        Poll::Pending => panic!("a place is free"),
+    }
 }
 
 /// What the closures and items of a pool share.
@@ -216,7 +230,7 @@ impl<const N: usize> AnyPool<N> {
                         };
                         world.log(Event::Pulls);
                         let pool = AnyPool::$kind(pool);
-                        let pulled = pool.pull(How::Any, false);
+                        let pulled = pool.pull(How::Any, false, &world);
                         let (out, _held) = match pulled {
                             Ok(mut held) => (Out::Item(held.item().id), Some(held)),
                             Err(out) => (out, None),
@@ -230,7 +244,8 @@ impl<const N: usize> AnyPool<N> {
         assert!(of.again.set(again).is_ok());
     }
 
-    pub fn pull(&self, how: How, owned: bool) -> Result<Held<'_, N>, Out> {
+    pub fn pull(&self, how: How, owned: bool, world: &Arc<World>) -> Result<Held<'_, N>, Out> {
+        let made = async { Item::make(world) };
         Ok(match (self, owned) {
             (AnyPool::Fixed(pool), false) => {
                 let held = pool.pull().ok_or(Out::Refused)?;
@@ -253,6 +268,8 @@ impl<const N: usize> AnyPool<N> {
                     How::Over => pool.pull_timeout(Duration::ZERO),
                     How::Long => pool.pull_timeout(Duration::from_secs(3_600)),
                     How::Ever => pool.pull_wait(),
+                    How::Task => ready(pool.pull_async()),
+                    How::With => ready(pool.pull_async_with(made)),
                 }
                 .map_err(out)?,
             ),
@@ -263,6 +280,8 @@ impl<const N: usize> AnyPool<N> {
                     How::Over => pool.pull_owned_timeout(Duration::ZERO),
                     How::Long => pool.pull_owned_timeout(Duration::MAX),
                     How::Ever => pool.pull_owned_wait(),
+                    How::Task => ready(pool.pull_owned_async()),
+                    How::With => ready(pool.pull_owned_async_with(made)),
                 }
                 .map_err(out)?,
             ),

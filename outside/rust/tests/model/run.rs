@@ -52,6 +52,9 @@ pub fn tried<R>(call: impl FnOnce() -> R) -> Option<R> {
     catch_unwind(AssertUnwindSafe(call)).ok()
 }
 
+/// The pulls of a lazy pool.
+const HOWS: [How; 7] = [How::Any, How::Try, How::Over, How::Long, How::Ever, How::Task, How::With];
+
 /// What one run has. Guards are by their pools.
 pub struct Run<'s, 'p, const N: usize> {
     scope: &'s Scope<'s, 'p>,
@@ -99,7 +102,7 @@ impl<'s, 'p: 's, const N: usize> Run<'s, 'p, N> {
     fn pull(&mut self, worker: usize, at: usize, how: How, owned: bool, items: usize) {
         let (pool, world, worker) = (&self.pools[at], &self.worlds[at], &self.workers[worker]);
         let pulled = worker.call(move || {
-            let pull = || match tried(|| pool.pull(how, owned)) {
+            let pull = || match tried(|| pool.pull(how, owned, world)) {
                 Some(Ok(mut held)) => (Out::Item(held.item().id), Some(held)),
                 Some(Err(out)) => (out, None),
                 None => (Out::Unwound, None),
@@ -218,14 +221,12 @@ impl<'s, 'p: 's, const N: usize> Run<'s, 'p, N> {
             0..=4 => {
                 let mut how = How::Any;
                 if is_lazy {
-                    how = [How::Any, How::Try, How::Over, How::Long, How::Ever][random.below(5)];
+                    how = HOWS[random.below(HOWS.len())];
                 }
                 let left = self.models[at].limit - count - self.models[at].lost;
-                let most = if matches!(how, How::Long | How::Ever) && !self.models[at].closed {
-                    left
-                } else {
-                    left.saturating_add(2)
-                };
+                let waits = !matches!(how, How::Any | How::Try | How::Over);
+                let most =
+                    if waits && !self.models[at].closed { left } else { left.saturating_add(2) };
                 self.pull(worker, at, how, random.one_in(2), some.min(most));
             }
             5..=8 => {
