@@ -46,7 +46,7 @@ fn run<const N: usize>(seed: u64, commands: &[u64]) {
         &[Kind::Mutex, Kind::Spin, Kind::None],
     ];
     let kinds = kinds.concat().into_iter().enumerate();
-    let models: Vec<_> = kinds.map(|(at, kind)| Model::new(kind, size(), at % 2 == 0)).collect();
+    let models: Vec<_> = kinds.map(|(at, kind)| Model::new(at, kind, size())).collect();
     let worlds: Vec<_> = models.iter().map(|_| Arc::new(World::default())).collect();
     let made = models.iter().zip(&worlds);
     let pools: Vec<_> = made.map(|(model, world)| AnyPool::new(model, world)).collect();

@@ -201,8 +201,9 @@ impl<const N: usize> AnyPool<N> {
             }
             Kind::Linear => AnyPool::Linear(Arc::new(LinearObjectPool::new(init, reset))),
             Kind::Lazy => {
-                let pool = LazyPool::new(model.limit, make, Item::reset);
-                let pool = pool.expect("there is memory");
+                let pool = LazyPool::builder(model.limit).init(make).reset(Item::reset);
+                let pool = if model.is_fair { pool.fair() } else { pool };
+                let pool = pool.build().expect("there is memory");
                 let check = |item: &mut Item<N>| item.world.act(CHECK, Event::Check(item.id));
                 AnyPool::Lazy(Arc::new(match model.checks {
                     true => pool.with_check(check),

@@ -27,6 +27,7 @@ pub struct Model {
     pub kind: Kind,
     pub limit: usize,
     pub checks: bool,
+    pub is_fair: bool,
     pub closed: bool,
     pub acts: [Act; 4],
     /// How many are free, never come again, and are being made or dropped at their places.
@@ -45,12 +46,14 @@ pub struct Model {
 }
 
 impl Model {
-    pub fn new(kind: Kind, size: usize, checks: bool) -> Model {
+    /// Creates the model of one of the pools of a run, of which some check and some are fair.
+    pub fn new(at: usize, kind: Kind, size: usize) -> Model {
         let is_limited = matches!(kind, Kind::Fixed | Kind::Lazy);
         let mut model = Model {
             kind,
             limit: if is_limited { size } else { usize::MAX },
-            checks,
+            checks: at % 2 == 0,
+            is_fair: at % 4 < 2,
             closed: false,
             acts: Default::default(),
             free: 0,
