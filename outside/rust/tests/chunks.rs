@@ -47,7 +47,9 @@ fn each_place_of_a_part_is_used() {
     let pool = LinearObjectPool::<u32>::new(|| 0, |_| ());
     let mut items = Vec::new();
     for room in [8, 24, 56, 120, 248, 504, 1_016, 1_528, 2_040, 2_552, 3_576, 4_600] {
-        items.resize_with(room, || pool.pull());
+        items.resize_with(room - 1, || pool.pull());
+        assert_eq!((pool.status().items, pool.status().made), (room, room - 1));
+        items.push(pool.pull());
         assert_eq!((pool.status().items, pool.status().made), (room, room));
     }
 }
@@ -58,6 +60,10 @@ fn a_pool_grows_to_many_items() {
     let mut items: Vec<_> = (0..200_000).map(|_| pool.pull()).collect();
     items.iter_mut().for_each(|item| **item += 1);
     assert!(items.iter().all(|item| **item == 1), "two hold one");
+    assert_eq!(pool.status().made, 200_000);
+    drop(items);
+    let _again: Vec<_> = (0..200_000).map(|_| pool.pull()).collect();
+    assert_eq!(pool.status().made, 200_000);
 }
 
 #[test]
