@@ -96,6 +96,10 @@ fn call<F: Lockable, W: Abort + Wait>(
 ) -> usize {
     match word {
         "take" => list.take(rt).0.map_or(0, |taken| taken.0 as usize),
+        "take after" => {
+            let (taken, _note) = list.take_after(rt, list.note());
+            taken.map_or(0, |taken| taken.0 as usize)
+        }
         "give 6" => {
             let room = Room::new(alloc).expect(rt, "memory is left");
             list.give(rt, list.note(), room, 6);
@@ -156,7 +160,7 @@ fn wait_for_the_lock<
 
 #[test]
 fn a_take_and_a_put_wait_for_the_lock(rt: HostRuntime) {
-    let calls = [("give 6", 6), ("take", 6), ("give 6", 6), ("take", 6)];
+    let calls = [("give 6", 6), ("take", 6), ("give 6", 6), ("take after", 6)];
     wait_for_the_lock::<Mutex<Stack<u32, AnyValue>>, _>(&rt, rt.alloc(), calls);
     wait_for_the_lock::<KeptStack<u32, AnyValue>, _>(&rt, rt.alloc(), calls);
 }
