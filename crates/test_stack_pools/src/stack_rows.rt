@@ -111,9 +111,9 @@ fn a_closure_that_refuses_is_asked_once_a_pull(rt: HostRuntime) {
 fn a_filled_pool_gives_what_it_made(rt: HostRuntime) {
     plays(
         rt,
-        "kept; fill 40; fill 0; kept; counts; pull; pull; kept; return 0; kept; calls",
-        "keeps 0; done; done; keeps 40; made reset dropped 40 0 0; pulled 39 0; pulled 38 0; \
-         keeps 38; done; keeps 39; calls 40",
+        "kept; fill 40; fill 0; kept; pull; pull; kept; counts; return 0; kept; calls",
+        "keeps 0; done; done; keeps 40; pulled 39 0; pulled 38 0; keeps 38; \
+         made reset dropped 40 0 0; done; keeps 39; calls 40",
     );
 }
 
@@ -124,15 +124,6 @@ fn a_filling_that_is_refused_keeps_what_it_made(rt: HostRuntime) {
         "refuse 3; fill 5; kept; calls; counts; fill 2; kept; calls; counts",
         "done; refused init; keeps 3; calls 4; made reset dropped 3 0 0; done; keeps 5; calls 6; \
          made reset dropped 5 0 0",
-    );
-}
-
-#[test]
-fn a_filling_resets_nothing(rt: HostRuntime) {
-    plays(
-        rt,
-        "fill 2; counts; pull; pull; counts",
-        "done; made reset dropped 2 0 0; ..; ..; made reset dropped 2 0 0",
     );
 }
 
@@ -154,18 +145,10 @@ fn a_cleared_pool_drops_what_it_keeps(rt: HostRuntime) {
 fn a_detached_value_leaves_its_pool(rt: HostRuntime) {
     plays(
         rt,
-        "fill 2; pull; detach 0; pull; detach 1; kept; owners; counts; pull",
-        "done; pulled 1 0; detached 1 0; pulled 0 0; detached 0 0; keeps 0; owners 1; \
-         made reset dropped 2 0 2; pulled 2 0",
-    );
-}
-
-#[test]
-fn a_detached_value_is_as_it_was_written(rt: HostRuntime) {
-    plays(
-        rt,
-        "zero 1; pull; pull; write 0 5; write 1 6; detach 0; detach 1; kept",
-        "done; pulled 0 0; pulled 1 0; reads 0 5; reads 1 6; detached 0 5; detached 1 6; keeps 0",
+        "zero 1; fill 2; pull; write 0 5; detach 0; pull; write 1 6; detach 1; kept; owners; \
+         counts; pull",
+        "done; done; pulled 1 0; reads 1 5; detached 1 5; pulled 0 0; reads 0 6; detached 0 6; \
+         keeps 0; owners 1; made reset dropped 2 0 2; pulled 2 0",
     );
 }
 
