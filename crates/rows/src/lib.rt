@@ -4,6 +4,7 @@
 
 pub mod dice;
 pub mod game;
+pub mod refusals;
 pub mod row;
 pub mod said;
 pub mod setting;

@@ -1,0 +1,75 @@
+//! What a test has met of refused memory, and one who asks again for what was refused.
+use crate::row::{Command, Player};
+use crate::said::Said;
+use pool_parts::PullError;
+use std::cell::Cell;
+use std::process::Abort;
+
+/// Whether memory was refused until now.
+#[derive(Drop)]
+pub struct Refusals {
+    is_met: Cell<bool>,
+}
+
+/// Answers what is asked for. If memory was refused, it comes by a second try.
+#[macro_export]
+macro_rules! asked_again {
+    ($rt:expr, $refusals:expr, $ask:expr) => {{
+        let mut answer = $ask;
+        if $refusals.are_told_by(&answer) {
+            answer = $ask;
+        }
+        answer.expect($rt, "one request alone is refused")
+    }};
+}
+
+impl Refusals {
+    /// Creates a record of no refusal.
+    pub fn new() -> Refusals {
+        Refusals {
+            is_met: Cell::new(false),
+        }
+    }
+
+    /// Records that memory was refused.
+    pub fn note(&self) {
+        self.is_met.set(true);
+    }
+
+    /// Returns whether an answer tells that memory was refused, which is recorded.
+    pub fn are_told_by<X: Drop>(&self, answer: &Result<X, PullError>) -> bool {
+        let is_told = matches!(answer, Err(PullError::Memory));
+        if is_told {
+            self.note();
+        }
+        is_told
+    }
+
+    /// Prints whether memory was refused, which `ci/refuse_memory` compares with what it refused.
+    pub fn tell(&self, rt: &(impl Abort + Print)) {
+        let told = if self.is_met.get() {
+            println!(rt; "a request for memory was refused")
+        } else {
+            println!(rt; "each request for memory was met")
+        };
+        told.expect(rt, "standard output is there");
+    }
+}
+
+/// A player who does once more what memory was refused for.
+#[derive(Drop)]
+pub struct Again<'r, P> {
+    pub player: P,
+    pub refusals: &'r Refusals,
+}
+
+impl<P: Player> Player for Again<'_, P> {
+    fn play(&mut self, command: Command) -> Said {
+        let said = self.player.play(command);
+        if said.words() != "refused memory" {
+            return said;
+        }
+        self.refusals.note();
+        self.player.play(command)
+    }
+}
