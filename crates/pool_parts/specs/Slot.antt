@@ -1,5 +1,5 @@
 -- What a page answers to a pull: a slot with an item, or that each of its items was seen in use.
-use Rattle.std.specs.Prelude.{◌≡◌, ℕ, ◌+◌, ◌<◌, ◌≤◌}
+use Rattle.std.specs.Prelude.{◌≡◌, ℕ, ◌<◌}
 use Rattle.atomic_table.specs.Seated.{TableId}
 use Rattle.pool_parts.specs.declared.page.full_seen.Allocated.{Allocated}
 use Rattle.pool_parts.specs.declared.page.full_seen.Allocated.TheVariants.{Slot, Full}
@@ -30,11 +30,6 @@ module _ {T : Type 0} where
   -- each of the items of this page was seen in use in one call
   abbrev pub IsFullPage : TableId → SeenView T → Type 0
   IsFullPage page seen = IsAllOut PAGE_ITEMS page (new_user seen.known.opening seen.known.user) seen
-
-  -- a user that had made so many loads and tries has read the page's word once more, and has tried 32 bits more at most
-  pub record ReadsOnce (read tried : ℕ) (known : UserView T) : Type 0 where
-    pub one_look : known.loads ≡ read + 1
-    pub tries : known.tries ≤ tried + PAGE_ITEMS
 
 module _ {T K : Type 0} where
   -- what the user of the call knows of the page, whatever it answers

@@ -39,7 +39,7 @@ impl<T: Drop, K: Clean<T>> Drop for Page<T, K> {
 
 impl<T, K: Clean<T>> Page<T, K> {
     ghost use Rattle.pool_parts.specs.Answers.{MayMake, Refuses};
-    ghost use Rattle.pool_parts.specs.Slot.{IsAnswerOf, ReadsOnce, answer_view};
+    ghost use Rattle.pool_parts.specs.Slot.{IsAnswerOf, answer_view};
     ghost use Rattle.pool_parts.specs.Page.{held_item, HoldsSame, IsReturned, IsNoteOf, HasLearned, page_view, view_of};
     ghost use Rattle.pool_parts.specs.Item.{IsPageItem, IsPulled, IsFilled, new_user};
     ghost use Rattle.pool_parts.specs.PageRule.{MayTake, IsOutNow};
@@ -89,7 +89,9 @@ impl<T, K: Clean<T>> Page<T, K> {
             (new_user (page_view self.now).opening slot.item.holder) slot.item)) }
         ensures opening { IfOk result (λ found. IfSome found
             (λ slot. slot.opening ≡ (page_view self.now).opening)) }
-        ensures steps { IfOk result (λ found. IfSome found (λ slot. ReadsOnce 0 0 slot.known)) }
+        ensures one_look { IfOk result (λ found. IfSome found (λ slot. slot.known.loads ≡ 1)) }
+        ensures tries { IfOk result
+            (λ found. IfSome found (λ slot. slot.known.tries ≤ PAGE_ITEMS)) }
     {
         let pass = PullPass::new();
         match self.try_alloc(&pass)? {
@@ -111,7 +113,8 @@ impl<T, K: Clean<T>> Page<T, K> {
         ensures succeeds { IsOk result }
         ensures answer { IfOk result (λ answer. IsAnswerOf K.meets (page_view self.now)
             (new_user (page_view self.now).opening (answer_view answer).user) answer) }
-        ensures steps { IfOk result (λ answer. ReadsOnce 0 0 (answer_view answer)) }
+        ensures one_look { IfOk result (λ answer. (answer_view answer).loads ≡ 1) }
+        ensures tries { IfOk result (λ answer. (answer_view answer).tries ≤ PAGE_ITEMS) }
     {
         Ok(self.take(pass).answer)
     }
@@ -121,7 +124,8 @@ impl<T, K: Clean<T>> Page<T, K> {
     pub fn take<'s, 'p>(&'s self, pass: &'p PullPass) -> PageAnswer<'s, 'p, T, K>
         ensures answer { IsAnswerOf K.meets (page_view self.now)
             (new_user (page_view self.now).opening (answer_view result.answer).user) result.answer }
-        ensures steps { ReadsOnce 0 0 (answer_view result.answer) }
+        ensures one_look { (answer_view result.answer).loads ≡ 1 }
+        ensures tries { (answer_view result.answer).tries ≤ PAGE_ITEMS }
     {
         let (word, seat) = self.items.look(0);
         self.take_by(pass, word, seat)
@@ -142,9 +146,10 @@ impl<T, K: Clean<T>> Page<T, K> {
         ensures succeeds { IsOk result }
         ensures answer { IfOk result
             (IsAnswerOf K.meets (page_view self.now) (view_of note.seat)) }
-        ensures steps { IfOk result
-            (λ answer. ReadsOnce (view_of note.seat).loads (view_of note.seat).tries
-            (answer_view answer)) }
+        ensures one_look { IfOk result
+            (λ answer. (answer_view answer).loads ≡ (view_of note.seat).loads + 1) }
+        ensures tries { IfOk result
+            (λ answer. (answer_view answer).tries ≤ (view_of note.seat).tries + PAGE_ITEMS) }
     {
         Ok(self.take_from(pass, note))
     }
@@ -157,8 +162,8 @@ impl<T, K: Clean<T>> Page<T, K> {
     ) -> Allocated<'s, 'p, T, K>
         requires page { note.seat.table_id ≡ (page_view self.now).identity }
         ensures answer { IsAnswerOf K.meets (page_view self.now) (view_of note.seat) result }
-        ensures steps { ReadsOnce (view_of note.seat).loads (view_of note.seat).tries
-            (answer_view result) }
+        ensures one_look { (answer_view result).loads ≡ (view_of note.seat).loads + 1 }
+        ensures tries { (answer_view result).tries ≤ (view_of note.seat).tries + PAGE_ITEMS }
     {
         let PageNote { mut seat } = note;
         let word = self.items.look_again(&mut seat, 0);
