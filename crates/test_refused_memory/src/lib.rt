@@ -21,8 +21,6 @@ mod pages;
 #[cfg(test)]
 mod players;
 #[cfg(test)]
-mod pools_behind_a_lock;
-#[cfg(test)]
 mod refusals;
 #[cfg(test)]
 mod sequential_cores;

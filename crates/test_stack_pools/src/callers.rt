@@ -18,31 +18,18 @@ use std::process::Abort;
 use std::sync::{Arc, Wait};
 use test_values::zeros::{CountedZeros, Zero, new_calls};
 
-/// Whatever other threads do and attach, a pulled value meets the condition.
+/// Whatever other threads do and attach, a pulled value meets the condition, borrowed or owned.
 fn pulled<
     K: Clean<u32>,
     I: Init<u32, K>,
     R: Reset<u32, K>,
     F: FreeList<u32, MadeOrReset<I, R, K>>,
     W: Wait + Copy,
->(rt: &W, pool: &Arc<StackObjectPool<u32, I, R, K, F>>) -> Option<u32>
-    ensures { IfSome result K.meets }
+>(rt: &W, pool: &Arc<StackObjectPool<u32, I, R, K, F>>) -> Option<(u32, u32)>
+    ensures { IfSome result (λ both. (K.meets both.0) × (K.meets both.1)) }
 {
-    let item = pool.pull(rt).ok()?;
-    Some(*item)
-}
-
-fn pulled_owned<
-    K: Clean<u32>,
-    I: Init<u32, K>,
-    R: Reset<u32, K>,
-    F: FreeList<u32, MadeOrReset<I, R, K>>,
-    W: Wait + Copy,
->(rt: &W, pool: &Arc<StackObjectPool<u32, I, R, K, F>>) -> Option<u32>
-    ensures { IfSome result K.meets }
-{
-    let item = pool.pull_owned(rt).ok()?;
-    Some(*item)
+    let borrowed = *pool.pull(rt).ok()?;
+    Some((borrowed, *pool.pull_owned(rt).ok()?))
 }
 
 /// A write changes the value alone.
@@ -79,12 +66,12 @@ fn refusal<F: FreeList<u32, MadeOrReset<CountedZeros, Copied<u32, Zero>, Zero>>,
 fn written<F: FreeList<u32, MadeOrReset<CountedZeros, Copied<u32, Zero>, Zero>>, W: Wait + Copy>(
     rt: &W,
     pool: &Arc<Cleared<F>>,
-) -> Option<(u32, Option<u32>, Option<u32>)> {
+) -> Option<(u32, Option<(u32, u32)>)> {
     let mut item = pool.pull(rt).ok()?;
     write(&mut item, 7);
     let shown = *item;
     drop(item);
-    Some((shown, pulled(rt, pool), pulled_owned(rt, pool)))
+    Some((shown, pulled(rt, pool)))
 }
 
 /// What the callers see of a pool that resets to 0, whose condition is that the value is 0.
@@ -93,10 +80,13 @@ fn shows_what_its_callers_know<
     W: Abort + Wait + Copy,
 >(rt: &W, alloc: Global, pool: Cleared<F>) {
     let pool = Arc::new(alloc, pool).expect(rt, "memory is left");
-    assert_eq!(*rt; written(rt, &pool), Some((7, Some(0), Some(0))));
+    assert_eq!(*rt; written(rt, &pool), Some((7, Some((0, 0)))));
     assert_eq!(*rt; (attached(rt, &*pool), refusal(rt, &*pool)), (Ok(9), None));
     let owner = Arc::try_clone(&pool).expect(rt, "an owner is made");
-    assert_eq!(*rt; (attached(rt, owner), pulled(rt, &pool)), (Ok(9), Some(0)));
+    assert_eq!(*rt;
+        (attached(rt, owner), pulled(rt, &pool)),
+        (Ok(9), Some((0, 0)))
+    );
 }
 
 #[test]

@@ -11,19 +11,13 @@ mod no_memory;
 #[cfg(test)]
 mod none_pool;
 #[cfg(test)]
+mod parts;
+#[cfg(test)]
 mod pull_error;
 #[cfg(test)]
 mod sends;
 #[cfg(test)]
-mod spin_lock;
-#[cfg(test)]
-mod stack;
-#[cfg(test)]
 mod stack_game;
-#[cfg(test)]
-mod stack_locks;
-#[cfg(test)]
-mod stack_model;
 #[cfg(test)]
 mod stack_player;
 #[cfg(test)]

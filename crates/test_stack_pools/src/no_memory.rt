@@ -1,17 +1,16 @@
 //! Calls that ask for no memory. Each test prints when it has all that it needs.
 //! `ci/refuse_memory` refuses each of its requests in turn, and fails where one comes after that
 //! line. Before it, a request that is refused ends the test.
-use crate::stack_player::{Kind, Pool, StackPlayer, new_book};
-use crate::values::{Book, Part, Value};
+use crate::stack_player::{Kind, Opened, StackPlayer, UnderMutex, UnderSpinLock};
 use none_pools::NoneObjectPool;
-use pool_parts::PullError;
 use pool_parts::clean::AnyValue;
+use pool_parts::closures::{Copied, Keep};
+use rows::refusals::Refusals;
 use stack_pools::MutexObjectPool;
 use stack_pools::spin_lock::SpinLock;
 use stack_pools::stack::{Room, Stack};
-use std::alloc::Global;
 use std::process::Abort;
-use std::sync::{Arc, Wait};
+use std::sync::Wait;
 
 /// Prints that no memory is asked for from here on.
 fn is_ready(rt: &(impl Abort + Print)) {
@@ -19,25 +18,19 @@ fn is_ready(rt: &(impl Abort + Print)) {
     told.expect(rt, "standard output is there");
 }
 
-fn opened(alloc: Global, kind: Kind) -> Result<(Pool, Arc<Book>), PullError> {
-    let book = new_book(alloc, None)?;
-    Ok((Pool::open(alloc, kind, &book)?, book))
-}
-
 /// Plays a row without memory on a pool that keeps 48 values, if there was memory for that.
-fn plays_ready<W: Abort + AllocGlobal + Print + Wait + Copy>(
+fn plays<F: Kind, W: Abort + AllocGlobal + Print + Wait + Copy>(
     rt: W,
-    kind: Kind,
     (commands, answers): (&'static str, &'static str),
 ) {
-    let Ok((pool, book)) = opened(rt.alloc(), kind) else {
+    let Ok(opened) = Opened::<F>::new(rt.alloc(), None) else {
         return;
     };
-    let mut player = StackPlayer::new(rt, &pool, &book, false, Vec::new(rt.alloc()));
-    if player.has_room() && pool.fill(&rt, 48).is_ok() {
+    let refusals = Refusals::new();
+    let mut player = StackPlayer::new(rt, rt.alloc(), &opened, &refusals, false);
+    if player.has_room() && opened.pool.fill(&rt, 48).is_ok() {
         is_ready(&rt);
-        let found = player.first_difference(commands, answers);
-        assert_eq!(rt; (kind, found), (kind, None));
+        assert_eq!(rt; player.first_difference(commands, answers), None);
     }
 }
 
@@ -51,12 +44,12 @@ fn turns() -> (&'static str, &'static str) {
 
 #[test]
 fn turns_of_a_mutex_pool_ask_for_no_memory(rt: HostRuntime) {
-    plays_ready(rt, Kind::Mutex, turns());
+    plays::<UnderMutex, _>(rt, turns());
 }
 
 #[test]
 fn turns_of_a_spin_lock_pool_ask_for_no_memory(rt: HostRuntime) {
-    plays_ready(rt, Kind::SpinLock, turns());
+    plays::<UnderSpinLock, _>(rt, turns());
 }
 
 /// Each other call, once.
@@ -71,39 +64,26 @@ fn calls() -> (&'static str, &'static str) {
 
 #[test]
 fn calls_of_a_mutex_pool_ask_for_no_memory(rt: HostRuntime) {
-    plays_ready(rt, Kind::Mutex, calls());
+    plays::<UnderMutex, _>(rt, calls());
 }
 
 #[test]
 fn calls_of_a_spin_lock_pool_ask_for_no_memory(rt: HostRuntime) {
-    plays_ready(rt, Kind::SpinLock, calls());
+    plays::<UnderSpinLock, _>(rt, calls());
 }
 
 #[test]
 fn openings_of_a_mutex_pool_ask_for_no_memory(rt: HostRuntime) {
-    let Ok(book) = new_book(rt.alloc(), None) else {
-        return;
-    };
     is_ready(&rt);
-    let (init, reset) = (Part::new(&book), Part::new(&book));
-    let (init, reset) = (
-        init.expect(&rt, "few own it"),
-        reset.expect(&rt, "few own it"),
-    );
-    let pool: MutexObjectPool<Value, Part, Part> = MutexObjectPool::new(rt.alloc(), init, reset);
+    let pool: MutexObjectPool<u32, _, _> = MutexObjectPool::new(rt.alloc(), Copied::new(0), Keep);
     assert_eq!(rt; pool.kept(&rt), 0);
-}
-
-fn new_seven() -> Option<u64> {
-    Some(7)
 }
 
 #[test]
 fn calls_of_a_none_pool_ask_for_no_memory(rt: HostRuntime) {
     is_ready(&rt);
-    let pool = NoneObjectPool::new(new_seven);
-    let item = pool.pull().expect(&rt, "an item is made");
-    assert_eq!(rt; *item, 7);
+    let pool = NoneObjectPool::new(|| Some(7u64));
+    assert_eq!(rt; pool.pull().map(|item| *item), Ok(7));
 }
 
 #[test]

@@ -6,7 +6,7 @@ use std::collections::HashSet;
 use test_values::tally::Tally;
 
 #[test]
-fn each_refusal_has_its_own_words(rt: HostRuntime) {
+fn each_refusal_has_its_own_words_and_hash(rt: HostRuntime) {
     let (memory, init, limit) = (PullError::Memory, PullError::Init, PullError::Limit);
     let told = format!(in rt.alloc();
         "{memory}; {init}; {limit}; {memory:?}, {init:?}, {limit:?}"
@@ -16,6 +16,11 @@ fn each_refusal_has_its_own_words(rt: HostRuntime) {
         "out of memory; init gave no item; the pool is at its limit; Memory, Init, Limit",
     );
     assert_eq!(rt; (memory as u8, init as u8, limit as u8), (1, 2, 3));
+    let mut causes = HashSet::new(rt.alloc());
+    for cause in [memory, init, limit, init] {
+        causes.insert(cause).expect(&rt, "memory is left");
+    }
+    assert!(rt; causes.len() == 3);
 }
 
 #[test]
@@ -28,18 +33,4 @@ fn a_value_that_memory_was_refused_for_is_dropped(rt: HostRuntime) {
         (PullError::from(refused), counts.now()),
         (PullError::Memory, (1, 1)),
     );
-}
-
-#[test]
-fn each_cause_has_a_hash_of_its_own(rt: HostRuntime) {
-    let mut causes = HashSet::new(rt.alloc());
-    for cause in [
-        PullError::Memory,
-        PullError::Init,
-        PullError::Limit,
-        PullError::Init,
-    ] {
-        causes.insert(cause).expect(&rt, "memory is left");
-    }
-    assert!(rt; causes.len() == 3);
 }

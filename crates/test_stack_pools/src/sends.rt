@@ -1,5 +1,6 @@
 //! Callers that need pools, items, locks and their guards to be sent and shared, each under the
 //! least that its parts have to allow.
+use history_lock::{HistoryLock, Law, Seen};
 use none_pools::{NoneObjectPool, NoneReusable};
 use pool_parts::clean::Clean;
 use pool_parts::closures::{Init, Reset};
@@ -44,22 +45,18 @@ fn items_sent<
     K: Clean<T> + Send,
     W: Wait + Copy + Send,
 >(
-    mutex: (
-        &MutexReusable<'_, T, I, R, W, K>,
-        &MutexOwnedReusable<T, I, R, W, K>,
-    ),
-    spin_lock: (
-        &SpinLockReusable<'_, T, I, R, W, K>,
-        &SpinLockOwnedReusable<T, I, R, W, K>,
-    ),
+    mutex: &MutexReusable<'_, T, I, R, W, K>,
+    mutex_owned: &MutexOwnedReusable<T, I, R, W, K>,
+    spin_lock: &SpinLockReusable<'_, T, I, R, W, K>,
+    spin_lock_owned: &SpinLockOwnedReusable<T, I, R, W, K>,
 ) {
-    sent(mutex.0);
-    sent(mutex.1);
-    sent(spin_lock.0);
-    sent(spin_lock.1);
+    sent(mutex);
+    sent(mutex_owned);
+    sent(spin_lock);
+    sent(spin_lock_owned);
 }
 
-/// An item over a list that may be shared.
+/// Items over a list that may be shared.
 fn borrowed_shared<
     T: Send + Sync + Drop,
     I: Init<T, K> + Send + Sync,
@@ -89,47 +86,28 @@ fn items_shared<
     K: Clean<T> + Send,
     W: Wait + Copy + Send + Sync,
 >(
-    mutex: (
-        &MutexReusable<'_, T, I, R, W, K>,
-        &MutexOwnedReusable<T, I, R, W, K>,
-    ),
-    spin_lock: (
-        &SpinLockReusable<'_, T, I, R, W, K>,
-        &SpinLockOwnedReusable<T, I, R, W, K>,
-    ),
+    mutex: &MutexReusable<'_, T, I, R, W, K>,
+    mutex_owned: &MutexOwnedReusable<T, I, R, W, K>,
+    spin_lock: &SpinLockReusable<'_, T, I, R, W, K>,
+    spin_lock_owned: &SpinLockOwnedReusable<T, I, R, W, K>,
 ) {
-    borrowed_shared(mutex.0);
-    owned_shared(mutex.1);
-    borrowed_shared(spin_lock.0);
-    owned_shared(spin_lock.1);
+    borrowed_shared(mutex);
+    owned_shared(mutex_owned);
+    borrowed_shared(spin_lock);
+    owned_shared(spin_lock_owned);
 }
 
-fn pool_sent<T, I: Fn() -> Option<T> + Send>(pool: &NoneObjectPool<T, I>) {
-    sent(pool);
-}
-
-fn pool_shared<T, I: Fn() -> Option<T> + Sync>(pool: &NoneObjectPool<T, I>) {
-    shared(pool);
-}
-
-fn item_sent<T: Send>(item: &NoneReusable<T>) {
-    sent(item);
-}
-
-fn item_shared<T: Sync>(item: &NoneReusable<T>) {
-    shared(item);
-}
-
-fn lock_sent<T: Send>(lock: &SpinLock<T>) {
+fn parts_sent<T: Send>(
+    lock: &SpinLock<T>,
+    guard: &SpinLockGuard<'_, T>,
+    room: &Room<T>,
+    item: &NoneReusable<T>,
+) {
     sent(lock);
-}
-
-fn lock_shared<T: Send>(lock: &SpinLock<T>) {
     shared(lock);
-}
-
-fn guard_sent<T: Send>(guard: &SpinLockGuard<'_, T>) {
     sent(guard);
+    sent(room);
+    sent(item);
 }
 
 fn guard_shared<T: Send + Sync>(guard: &SpinLockGuard<'_, T>) {
@@ -140,6 +118,24 @@ fn stack_lock_shared<T: Send, K: Clean<T> + Send>(lock: &SpinLock<Stack<T, K>>) 
     shared(lock);
 }
 
-fn room_sent<T: Send>(room: &Room<T>) {
-    sent(room);
+fn none_pool_sent<T, I: Fn() -> Option<T> + Send>(pool: &NoneObjectPool<T, I>) {
+    sent(pool);
+}
+
+fn none_pool_shared<T, I: Fn() -> Option<T> + Sync>(pool: &NoneObjectPool<T, I>) {
+    shared(pool);
+}
+
+fn none_item_shared<T: Sync>(item: &NoneReusable<T>) {
+    shared(item);
+}
+
+fn history_lock_sent<T: Send, E, L: Law<T, E>>(lock: &HistoryLock<T, E, L>, seen: &Seen<E>) {
+    sent(lock);
+    shared(lock);
+    sent(seen);
+}
+
+fn seen_shared<E: Sync>(seen: &Seen<E>) {
+    shared(seen);
 }

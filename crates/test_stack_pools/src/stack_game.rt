@@ -1,38 +1,165 @@
 //! Random commands to the mutex pool and the spin lock pool, beside their model.
-use crate::stack_model::{Counts, Model};
-use crate::stack_player::{Kind, Pool, StackPlayer, new_book};
-use crate::values::Book;
+use crate::stack_player::{Kind, Opened, StackPlayer, UnderMutex, UnderSpinLock};
+use crate::values::{Book, Part, Value};
 use pool_parts::PullError;
+use pool_parts::closures::{Init, Reset};
 use rows::dice::Dice;
-use rows::game::{Trial, Unfair, shrunk};
+use rows::refusals::Refusals;
 use rows::row::Command;
 use rows::said::Said;
-use std::alloc::Global;
+use std::alloc::{AllocError, Global};
 use std::process::Abort;
-use std::sync::atomic::Ordering::SeqCst;
 use std::sync::{Arc, Wait};
+
+/// What a pool is to be: the values that it keeps, the last one last, and those that left it. They
+/// have a book of their own.
+#[derive(Drop)]
+struct Model {
+    kept: Vec<Value>,
+    /// Each with whether its item owns the pool.
+    held: Vec<Option<(Value, bool)>>,
+    book: Arc<Book>,
+    owners: usize,
+    part: Part,
+}
+
+impl Model {
+    /// Creates the model of a new pool.
+    fn new(alloc: Global) -> Result<Model, PullError> {
+        let book = Arc::new(alloc, Book::new(None))?;
+        Ok(Model {
+            kept: Vec::new(alloc),
+            held: Vec::new(alloc),
+            owners: 1,
+            part: Part {
+                book: Arc::try_clone(&book)?,
+            },
+            book,
+        })
+    }
+
+    fn take(&mut self) -> Option<Value> {
+        match self.kept.pop() {
+            Some(value) => Some(value),
+            None => self.part.make(),
+        }
+    }
+
+    /// A value comes back.
+    fn give(&mut self, value: Value) -> Result<Said, AllocError> {
+        if let Some(value) = self.part.try_reset(value) {
+            self.kept.push(value)?;
+        }
+        Ok(Said::of("done"))
+    }
+
+    fn hold(
+        &mut self,
+        words: &'static str,
+        value: Option<Value>,
+        is_owned: bool,
+    ) -> Result<Said, AllocError> {
+        let Some(value) = value else {
+            return Ok(Said::of("refused init"));
+        };
+        let said = value.says(words);
+        self.owners = self.owners.saturating_add(usize::from(is_owned));
+        self.held.push(Some((value, is_owned)))?;
+        Ok(said)
+    }
+
+    /// A pull, its return, and a pull.
+    fn renew(&mut self) -> Result<Said, AllocError> {
+        if let Some(value) = self.take() {
+            self.give(value)?;
+            let value = self.take();
+            return self.hold("pulled", value, false);
+        }
+        Ok(Said::of("refused init"))
+    }
+
+    /// An item is used, or let go.
+    fn use_held(&mut self, command: Command) -> Result<Said, AllocError> {
+        let Command {
+            word,
+            numbers: [index, number, _],
+        } = command;
+        let Some(place) = self.held.get_mut(index) else {
+            return Ok(Said::of("no such item"));
+        };
+        let Some((mut value, is_owned)) = place.take() else {
+            return Ok(Said::of("no such item"));
+        };
+        if word == "write" {
+            value.written = number;
+        }
+        if word == "write" || word == "read" {
+            let said = value.says("reads");
+            *place = Some((value, is_owned));
+            return Ok(said);
+        }
+        self.owners = self.owners.saturating_sub(usize::from(is_owned));
+        if word == "detach" {
+            return Ok(value.says("detached"));
+        }
+        self.give(value)
+    }
+
+    fn fill(&mut self, count: usize) -> Result<Said, AllocError> {
+        for _ in 0..count {
+            let Some(value) = self.part.make() else {
+                return Ok(Said::of("refused init"));
+            };
+            self.kept.push(value)?;
+        }
+        Ok(Said::of("done"))
+    }
+
+    /// Returns what is to be said to a command.
+    fn answer(&mut self, command: Command) -> Result<Said, AllocError> {
+        let Command {
+            word,
+            numbers: [number, _, _],
+        } = command;
+        match word {
+            "pull" | "pull_after" | "pull_owned" => {
+                let value = self.take();
+                self.hold("pulled", value, word == "pull_owned")
+            }
+            "renew" => self.renew(),
+            "attach" | "attach_owned" => {
+                let value = Value::new(&self.book, number);
+                self.hold("attached", value, word == "attach_owned")
+            }
+            "read" | "write" | "return" | "give_back" | "detach" => self.use_held(command),
+            "fill" => self.fill(number),
+            "clear" => {
+                self.kept.clear();
+                Ok(Said::of("done"))
+            }
+            _ => Ok(self.book.play(word, number)),
+        }
+    }
+
+    /// All is let go, and the pool ends. Returns what is told of it.
+    fn end(mut self) -> Result<Arc<Book>, AllocError> {
+        for _ in 0..self.held.len() {
+            if let Some(Some((value, _))) = self.held.pop() {
+                self.give(value)?;
+            }
+        }
+        let Model { book, .. } = self;
+        Ok(book)
+    }
+}
 
 /// A pool's player and its model.
 #[derive(Drop)]
-struct StackGame<'p, W: Wait + Copy> {
-    rt: W,
-    pool: &'p Pool,
-    book: &'p Arc<Book>,
-    player: StackPlayer<'p, W>,
+struct StackGame<'p, F: Kind, W: Wait + Copy> {
+    player: StackPlayer<'p, F, W>,
     model: Model,
     /// The most values that are made by one command.
     size: usize,
-}
-
-/// What was done with the values of a book.
-fn counts(book: &Book) -> Counts {
-    Counts {
-        calls: book.calls.load(SeqCst),
-        made: book.made.load(SeqCst),
-        resets: book.resets.load(SeqCst),
-        drops: book.drops.load(SeqCst),
-        dropped: book.dropped.load(SeqCst),
-    }
 }
 
 fn command(word: &'static str, first: usize, second: usize) -> Command {
@@ -42,7 +169,7 @@ fn command(word: &'static str, first: usize, second: usize) -> Command {
     }
 }
 
-impl<W: Wait + Copy> StackGame<'_, W> {
+impl<F: Kind, W: Wait + Copy> StackGame<'_, F, W> {
     /// Draws an item that is held, among the last ones.
     fn drawn_item(&self, dice: &mut Dice) -> usize {
         let held = self.model.held.len();
@@ -66,19 +193,14 @@ impl<W: Wait + Copy> StackGame<'_, W> {
         };
         command(word, self.drawn_item(dice), dice.below(100))
     }
-}
 
-impl<W: Wait + Copy> StackGame<'_, W> {
-    fn draw(&mut self, dice: &mut Dice) -> Command {
+    fn draw(&self, dice: &mut Dice) -> Command {
         let switch = usize::from(dice.one_in(3));
+        let calls = self.model.book.tally.calls();
         match dice.below(64) {
             0 => command("fill", dice.below(self.size.saturating_add(1)), 0),
             1 if dice.one_in(4) => command("clear", 0, 0),
-            2..=5 => command(
-                "refuse",
-                self.model.counts.calls.saturating_add(dice.below(3)),
-                0,
-            ),
+            2..=5 => command("refuse", calls.saturating_add(dice.below(3)), 0),
             6..=8 => command("reject", switch, 0),
             9..=11 => command("zero", switch, 0),
             12 | 13 => command("attach", dice.below(100), 0),
@@ -91,103 +213,50 @@ impl<W: Wait + Copy> StackGame<'_, W> {
         }
     }
 
-    /// Plays a command, and its answer if the model says another.
-    fn unfair(&mut self, command: Command) -> Option<Unfair> {
+    /// Plays a command. What was said to it if the model says another, or if what can be counted
+    /// isn't as the model's.
+    fn unfair(&mut self, command: Command) -> Option<Said> {
         let said = self.player.play(command);
-        if self.is_fair(command, said) {
-            None
-        } else {
-            Some(Unfair { command, said })
-        }
-    }
-
-    fn is_fair(&mut self, command: Command, said: Said) -> bool {
-        self.model.answer(command).ok() == Some(said)
-            && counts(self.book) == self.model.counts
-            && self.pool.kept(&self.rt) == self.model.kept.len()
-            && self.pool.owners() == self.model.owned.saturating_add(1)
+        let Opened { pool, book } = self.player.opened;
+        let is_fair = self.model.answer(command).ok() == Some(said)
+            && book.counts() == self.model.book.counts()
+            && pool.kept(&self.player.rt) == self.model.kept.len()
+            && Arc::strong_count(pool) == self.model.owners;
+        (!is_fair).then_some(said)
     }
 }
 
-/// Plays lists on new pools of a kind.
-#[derive(Drop)]
-struct StackTrial<W> {
+/// Plays a game on a pool, and lets all items go. Returns the book of the model, which then ends.
+fn plays_on<F: Kind, W: Abort + AllocGlobal + Wait + Copy>(
     rt: W,
-    alloc: Global,
-    kind: Kind,
-    size: usize,
-}
-
-impl<W: Abort + Wait + Copy> StackTrial<W> {
-    fn game<'p>(&self, pool: &'p Pool, book: &'p Arc<Book>) -> StackGame<'p, W> {
-        StackGame {
-            rt: self.rt,
-            pool,
-            book,
-            player: StackPlayer::new(self.rt, pool, book, false, Vec::new(self.alloc)),
-            model: Model::new(self.alloc),
-            size: self.size,
-        }
+    opened: &Opened<F>,
+    (seed, size): (u64, usize),
+) -> Arc<Book> {
+    let refusals = Refusals::new();
+    let mut game = StackGame {
+        player: StackPlayer::new(rt, rt.alloc(), opened, &refusals, false),
+        model: Model::new(rt.alloc()).expect(&rt, "memory is left"),
+        size,
+    };
+    let mut dice = Dice::new(seed);
+    for step in 0..size.saturating_mul(2).saturating_add(300) {
+        let command = game.draw(&mut dice);
+        let place = (size, seed, step, command);
+        assert_eq!(rt; (place, game.unfair(command)), (place, None));
     }
-
-    fn unfair(&self, list: &[Command]) -> Result<Option<Unfair>, PullError> {
-        let book = new_book(self.alloc, None)?;
-        let pool = Pool::open(self.alloc, self.kind, &book)?;
-        let mut game = self.game(&pool, &book);
-        for command in list {
-            let unfair = game.unfair(*command);
-            if unfair.is_some() {
-                return Ok(unfair);
-            }
-        }
-        Ok(None)
-    }
-
-    /// Plays a game on a pool, and lets all items go. The model then, or the list that failed.
-    fn played_on(&self, pool: &Pool, book: &Arc<Book>, seed: u64) -> Result<Model, Vec<Command>> {
-        let mut game = self.game(pool, book);
-        let mut dice = Dice::new(seed);
-        let mut list = Vec::new(self.alloc);
-        for _ in 0..self.size.saturating_mul(2).saturating_add(300) {
-            let command = game.draw(&mut dice);
-            list.push(command).expect(&self.rt, "memory is left");
-            if game.unfair(command).is_some() {
-                return Err(list);
-            }
-        }
-        let StackGame { mut model, .. } = game;
-        model.end();
-        Ok(model)
-    }
-}
-
-impl<W: Abort + Wait + Copy> Trial for StackTrial<W> {
-    fn fails(&self, list: &[Command]) -> bool {
-        matches!(self.unfair(list), Ok(Some(_)))
-    }
+    let StackGame { model, .. } = game;
+    model.end().expect(&rt, "memory is left")
 }
 
 /// Plays a game on a new pool, which then ends: what is left is dropped.
-fn plays<W: Abort + Wait + Copy>(rt: W, alloc: Global, kind: Kind, seed: u64, size: usize) {
-    let book = new_book(alloc, None).expect(&rt, "memory is left");
-    let pool = Pool::open(alloc, kind, &book).expect(&rt, "memory is left");
-    let trial = StackTrial {
-        rt,
-        alloc,
-        kind,
-        size,
-    };
-    let model = match trial.played_on(&pool, &book, seed) {
-        Ok(model) => model,
-        Err(list) => {
-            let list = shrunk(alloc, list, &trial).expect(&rt, "memory is left");
-            panic!(rt; "{kind:?}, size {size}, seed {seed}: {list:?}");
-        }
-    };
+fn plays<F: Kind, W: Abort + AllocGlobal + Wait + Copy>(rt: W, seed: u64, size: usize) {
+    let opened = Opened::<F>::new(rt.alloc(), None).expect(&rt, "memory is left");
+    let model = plays_on(rt, &opened, (seed, size));
+    let Opened { pool, book } = opened;
     drop(pool);
     assert_eq!(rt;
-        (counts(&book), Arc::strong_count(&book)),
-        (model.counts, 1)
+        (book.counts(), Arc::strong_count(&book)),
+        (model.counts(), 1)
     );
 }
 
@@ -199,13 +268,13 @@ const SIZES: [usize; 14] = [
 #[test]
 fn a_mutex_pool_is_as_its_model(rt: HostRuntime) {
     for size in SIZES {
-        plays(rt, rt.alloc(), Kind::Mutex, 3, size);
+        plays::<UnderMutex, _>(rt, 3, size);
     }
 }
 
 #[test]
 fn a_spin_lock_pool_is_as_its_model(rt: HostRuntime) {
     for size in SIZES {
-        plays(rt, rt.alloc(), Kind::SpinLock, 4, size);
+        plays::<UnderSpinLock, _>(rt, 4, size);
     }
 }

@@ -1,253 +1,114 @@
 //! A player of each call of a mutex pool and of a spin lock pool.
-use crate::values::{Book, Meeting, Part, Value};
+use crate::values::{Book, Called, Part, Value};
 use pool_parts::PullError;
 use pool_parts::clean::AnyValue;
+use pool_parts::made_or_reset::MadeOrReset;
+use rows::refusals::Refusals;
 use rows::row::{Command, Difference, Row};
 use rows::said::Said;
-use stack_pools::{
-    MutexObjectPool, MutexOwnedReusable, MutexReusable, SpinLockObjectPool, SpinLockOwnedReusable,
-    SpinLockReusable,
-};
+use rows::setting::refused;
+use stack_pools::free_list::FreeList;
+use stack_pools::kept_stack::KeptStack;
+use stack_pools::stack::Stack;
+use stack_pools::stack_object_pool::StackObjectPool;
+use stack_pools::stack_reusable::{SharedStackPool, StackReusable};
+use stack_pools::{MutexObjectPool, SpinLockObjectPool};
 use std::alloc::Global;
-use std::sync::atomic::Ordering::SeqCst;
-use std::sync::{Arc, Wait};
+use std::sync::{Arc, Mutex, Wait};
 
-type UnderMutex = MutexObjectPool<Value, Part, Part>;
+/// What a pool keeps.
+type Kept = MadeOrReset<Part, Part, AnyValue>;
 
-type UnderSpinLock = SpinLockObjectPool<Value, Part, Part>;
+pub type Pool<F> = StackObjectPool<Value, Part, Part, AnyValue, F>;
 
-/// A kind of stack pool.
-#[derive(Clone, Copy, Debug, PartialEq, Eq)]
-pub enum Kind {
-    Mutex,
-    SpinLock,
+pub type UnderMutex = Mutex<Stack<Value, Kept>>;
+
+pub type UnderSpinLock = KeptStack<Value, Kept>;
+
+/// A kind of stack pool, by its list.
+pub trait Kind: FreeList<Value, Kept> {
+    fn new_pool(alloc: Global, init: Part, reset: Part) -> Result<Pool<Self>, PullError>;
 }
 
-/// The kinds on which rows and games are played.
-pub const KINDS: [Kind; 2] = [Kind::Mutex, Kind::SpinLock];
+impl Kind for UnderMutex {
+    fn new_pool(alloc: Global, init: Part, reset: Part) -> Result<Pool<Self>, PullError> {
+        Ok(MutexObjectPool::new(alloc, init, reset))
+    }
+}
 
-/// A pool of either kind.
+impl Kind for UnderSpinLock {
+    fn new_pool(alloc: Global, init: Part, reset: Part) -> Result<Pool<Self>, PullError> {
+        SpinLockObjectPool::new(alloc, init, reset)
+    }
+}
+
+/// A pool, and the book of its values.
 #[derive(Drop)]
-pub enum Pool {
-    Mutex(Arc<UnderMutex>),
-    SpinLock(Arc<UnderSpinLock>),
+pub struct Opened<F: Kind> {
+    pub pool: Arc<Pool<F>>,
+    pub book: Arc<Book>,
 }
 
-impl Pool {
-    /// Opens a pool.
+impl<F: Kind> Opened<F> {
+    /// Opens a pool, one of whose calls may meet another thread.
     ///
     /// # Errors
     ///
     /// `Memory`.
-    pub fn open(alloc: Global, kind: Kind, book: &Arc<Book>) -> Result<Pool, PullError> {
-        let (init, reset) = (Part::new(book)?, Part::new(book)?);
-        match kind {
-            Kind::Mutex => {
-                let pool = MutexObjectPool::new(alloc, init, reset);
-                Ok(Pool::Mutex(Arc::new(alloc, pool)?))
-            }
-            Kind::SpinLock => {
-                let pool = SpinLockObjectPool::new(alloc, init, reset)?;
-                Ok(Pool::SpinLock(Arc::new(alloc, pool)?))
-            }
-        }
-    }
-
-    /// Becomes one more owner of the pool. `None` if it can have no more.
-    pub fn share(&self) -> Option<Pool> {
-        match self {
-            Pool::Mutex(pool) => Some(Pool::Mutex(Arc::try_clone(pool).ok()?)),
-            Pool::SpinLock(pool) => Some(Pool::SpinLock(Arc::try_clone(pool).ok()?)),
-        }
-    }
-
-    pub fn owners(&self) -> usize {
-        match self {
-            Pool::Mutex(pool) => Arc::strong_count(pool),
-            Pool::SpinLock(pool) => Arc::strong_count(pool),
-        }
-    }
-
-    pub fn kept<W: Wait>(&self, rt: &W) -> usize {
-        match self {
-            Pool::Mutex(pool) => pool.kept(rt),
-            Pool::SpinLock(pool) => pool.kept(rt),
-        }
-    }
-
-    pub fn clear<W: Wait>(&self, rt: &W) {
-        match self {
-            Pool::Mutex(pool) => pool.clear(rt),
-            Pool::SpinLock(pool) => pool.clear(rt),
-        }
-    }
-
-    /// # Errors
-    ///
-    /// `Memory` and `Init`.
-    pub fn fill<W: Wait>(&self, rt: &W, count: usize) -> Result<(), PullError> {
-        match self {
-            Pool::Mutex(pool) => pool.fill(rt, count),
-            Pool::SpinLock(pool) => pool.fill(rt, count),
-        }
-    }
-
-    /// Pulls an item that owns the pool.
-    ///
-    /// # Errors
-    ///
-    /// `Memory` and `Init`.
-    pub fn owned_item<'i, W: Wait + Copy>(&self, rt: &W) -> Result<Item<'i, W>, PullError> {
-        match self {
-            Pool::Mutex(pool) => Ok(Item::MutexOwned(pool.pull_owned(rt)?)),
-            Pool::SpinLock(pool) => Ok(Item::SpinLockOwned(pool.pull_owned(rt)?)),
-        }
-    }
-
-    /// What an item shows that is pulled and returned at once.
-    pub fn shown<W: Wait + Copy>(&self, rt: &W) -> Option<usize> {
-        match self {
-            Pool::Mutex(pool) => Some(pool.pull(rt).ok()?.written),
-            Pool::SpinLock(pool) => Some(pool.pull(rt).ok()?.written),
-        }
+    pub fn new(alloc: Global, place: Option<Called>) -> Result<Opened<F>, PullError> {
+        let book = Arc::new(alloc, Book::new(place))?;
+        let init = Part {
+            book: Arc::try_clone(&book)?,
+        };
+        let reset = Part {
+            book: Arc::try_clone(&book)?,
+        };
+        let pool = Arc::new(alloc, F::new_pool(alloc, init, reset)?)?;
+        Ok(Opened { pool, book })
     }
 }
 
 /// An item, borrowed or owned.
 #[derive(Drop)]
-pub enum Item<'p, W: Wait + Copy> {
-    Mutex(MutexReusable<'p, Value, Part, Part, W>),
-    MutexOwned(MutexOwnedReusable<Value, Part, Part, W>),
-    SpinLock(SpinLockReusable<'p, Value, Part, Part, W>),
-    SpinLockOwned(SpinLockOwnedReusable<Value, Part, Part, W>),
+enum Item<'p, F: Kind, W: Wait + Copy> {
+    Borrowed(StackReusable<Value, &'p Pool<F>, W>),
+    Owned(StackReusable<Value, Arc<Pool<F>>, W>),
 }
 
-impl<W: Wait + Copy> Item<'_, W> {
-    pub fn value(&self) -> &Value {
+impl<F: Kind, W: Wait + Copy> Item<'_, F, W> {
+    fn value(&self) -> &Value {
         match self {
-            Item::Mutex(item) => item,
-            Item::MutexOwned(item) => item,
-            Item::SpinLock(item) => item,
-            Item::SpinLockOwned(item) => item,
+            Item::Borrowed(item) => item,
+            Item::Owned(item) => item,
         }
     }
 
     fn write(&mut self, number: usize) {
         match self {
-            Item::Mutex(item) => item.written = number,
-            Item::MutexOwned(item) => item.written = number,
-            Item::SpinLock(item) => item.written = number,
-            Item::SpinLockOwned(item) => item.written = number,
+            Item::Borrowed(item) => item.written = number,
+            Item::Owned(item) => item.written = number,
         }
     }
 
-    fn detach(self) -> Value {
+    /// Lets it go as a word says.
+    fn leave(self, word: &'static str) -> Said {
         match self {
-            Item::Mutex(item) => item.detach(),
-            Item::MutexOwned(item) => item.detach(),
-            Item::SpinLock(item) => item.detach(),
-            Item::SpinLockOwned(item) => item.detach(),
-        }
-    }
-
-    fn give_back(self) {
-        match self {
-            Item::Mutex(item) => drop(item.give_back()),
-            Item::MutexOwned(item) => drop(item.give_back()),
-            Item::SpinLock(item) => drop(item.give_back()),
-            Item::SpinLockOwned(item) => drop(item.give_back()),
+            Item::Borrowed(item) => leave(item, word),
+            Item::Owned(item) => leave(item, word),
         }
     }
 }
 
-/// Pulls an item as a word says.
-fn pulled_of_mutex<'p, W: Wait + Copy>(
-    rt: &W,
-    owner: &'p Arc<UnderMutex>,
+fn leave<P: SharedStackPool<Value>, W: Wait + Copy>(
+    item: StackReusable<Value, P, W>,
     word: &'static str,
-) -> Result<Item<'p, W>, PullError> {
-    let pool: &'p UnderMutex = owner;
+) -> Said {
     match word {
-        "pull_owned" => Ok(Item::MutexOwned(owner.pull_owned(rt)?)),
-        "pull_after" => Ok(Item::Mutex(pool.pull_after(rt, pool.note())?)),
-        "renew" => {
-            let note = pool.pull(rt)?.give_back();
-            Ok(Item::Mutex(pool.pull_after(rt, note)?))
-        }
-        _ => Ok(Item::Mutex(pool.pull(rt)?)),
+        "detach" => return item.detach().says("detached"),
+        "give_back" => drop(item.give_back()),
+        _ => drop(item),
     }
-}
-
-/// The same of a spin lock pool, whose notes can learn.
-fn pulled_of_spin_lock<'p, W: Wait + Copy>(
-    rt: &W,
-    owner: &'p Arc<UnderSpinLock>,
-    word: &'static str,
-) -> Result<Item<'p, W>, PullError> {
-    let pool: &'p UnderSpinLock = owner;
-    match word {
-        "pull_owned" => Ok(Item::SpinLockOwned(owner.pull_owned(rt)?)),
-        "pull_after" => {
-            let known = pool.learn(pool.note(), pool.note());
-            Ok(Item::SpinLock(pool.pull_after(rt, known)?))
-        }
-        "renew" => {
-            let note = pool.pull(rt)?.give_back();
-            Ok(Item::SpinLock(pool.pull_after(rt, note)?))
-        }
-        _ => Ok(Item::SpinLock(pool.pull(rt)?)),
-    }
-}
-
-/// Attaches a value to a pool.
-fn attached<'p, W: Wait + Copy>(
-    rt: &W,
-    pool: &'p Pool,
-    value: Value,
-) -> Result<Item<'p, W>, Value> {
-    match pool {
-        Pool::Mutex(owner) => {
-            let pool: &'p UnderMutex = owner;
-            Ok(Item::Mutex(MutexReusable::new(rt, pool, value)?))
-        }
-        Pool::SpinLock(owner) => {
-            let pool: &'p UnderSpinLock = owner;
-            Ok(Item::SpinLock(SpinLockReusable::new(rt, pool, value)?))
-        }
-    }
-}
-
-/// Attaches a value to a pool, of which its item is an owner.
-fn attached_owned<'p, W: Wait + Copy>(
-    rt: &W,
-    owner: Pool,
-    value: Value,
-) -> Result<Item<'p, W>, Value> {
-    match owner {
-        Pool::Mutex(owner) => {
-            let item = MutexOwnedReusable::new(rt, owner, value)?;
-            Ok(Item::MutexOwned(item))
-        }
-        Pool::SpinLock(owner) => {
-            let item = SpinLockOwnedReusable::new(rt, owner, value)?;
-            Ok(Item::SpinLockOwned(item))
-        }
-    }
-}
-
-/// Says what a value is.
-pub fn says(words: &'static str, value: &Value) -> Said {
-    Said::of(words).and(value.serial).and(value.written)
-}
-
-/// Says why a pull failed.
-pub fn refused(cause: PullError) -> Said {
-    Said::of(match cause {
-        PullError::Memory => "refused memory",
-        PullError::Init => "refused init",
-        PullError::Limit => "refused limit",
-        PullError::Closed => "refused closed",
-    })
+    Said::of("done")
 }
 
 /// Holds items of a pool, and makes its calls by commands.
@@ -262,43 +123,45 @@ pub fn refused(cause: PullError) -> Said {
 /// - `counts` says how many values were made, reset and dropped, `calls` how often `init` was
 ///   called, `owners` how many the pool has.
 /// - `refuse CALL`: this call of `init`, from 0 on, makes nothing. `reject 1`, `zero 1`: `reset`
-///   rejects what it gets, or leaves 0. `again 1`: what memory was refused is asked for once more.
+///   rejects what it gets, or leaves 0.
 #[derive(Drop)]
-pub struct StackPlayer<'p, W: Wait + Copy> {
-    rt: W,
-    pool: &'p Pool,
-    book: &'p Arc<Book>,
+pub struct StackPlayer<'p, F: Kind, W: Wait + Copy> {
+    pub rt: W,
+    pub opened: &'p Opened<F>,
+    refusals: &'p Refusals,
     is_owned: bool,
-    tries_again: bool,
-    held: Vec<Option<Item<'p, W>>>,
+    held: Vec<Option<Item<'p, F, W>>>,
 }
 
 /// How many items are held without a further request for memory.
 const ROOM: usize = 64;
 
-impl<'p, W: Wait + Copy> StackPlayer<'p, W> {
-    /// Creates a player that holds nothing, with this list of what it will hold. If it is owned,
-    /// `pull` and `attach` are those of owned items.
+impl<'p, F: Kind, W: Wait + Copy> StackPlayer<'p, F, W> {
+    /// Creates a player that holds nothing. If it is owned, `pull` and `attach` are those of owned
+    /// items.
     pub fn new(
         rt: W,
-        pool: &'p Pool,
-        book: &'p Arc<Book>,
+        alloc: Global,
+        opened: &'p Opened<F>,
+        refusals: &'p Refusals,
         is_owned: bool,
-        held: Vec<Option<Item<'p, W>>>,
-    ) -> StackPlayer<'p, W> {
+    ) -> StackPlayer<'p, F, W> {
         StackPlayer {
             rt,
-            pool,
-            book,
+            opened,
+            refusals,
             is_owned,
-            tries_again: false,
-            held,
+            held: Vec::new(alloc),
         }
     }
 
     /// Takes room for what is held by rows without further requests for memory. Whether it was met.
     pub fn has_room(&mut self) -> bool {
-        self.held.reserve(ROOM).is_ok()
+        let is_met = self.held.reserve(ROOM).is_ok();
+        if !is_met {
+            self.refusals.note();
+        }
+        is_met
     }
 
     /// Plays a row. Returns the first difference, or `None` if each answer is as the row says.
@@ -318,86 +181,71 @@ impl<'p, W: Wait + Copy> StackPlayer<'p, W> {
         row.difference()
     }
 
-    /// Plays a command. Where memory was refused, of which a pull has to leave nothing, it is
-    /// played once more if it is to be.
+    /// Plays a command. Where memory was refused, it is played once more, which a refusal has to
+    /// leave undone: a filling goes on, and a value comes back.
     fn play_again(&mut self, command: Command) -> Said {
-        let (calls, drops) = (self.book.calls.load(SeqCst), self.book.drops.load(SeqCst));
+        let Command {
+            word,
+            numbers: [number, _, _],
+        } = command;
+        let opened = self.opened;
+        let (calls, drops) = opened.book.tally.now();
         let said = self.play(command);
-        let is_as_before = self.book.calls.load(SeqCst) == calls
-            && self.book.drops.load(SeqCst) == drops;
-        let is_refused = match said.words() {
-            "refused memory" => is_as_before,
-            "came back" => said.number(1) == Some(command.numbers[0]),
+        let made = opened.book.tally.calls().saturating_sub(calls);
+        let is_undone = match said.words() {
+            "refused memory" => {
+                opened.book.tally.drops() == drops && (made == 0 || word == "fill")
+            }
+            "came back" => said.number(1) == Some(number),
             _ => false,
         };
-        if is_refused && self.tries_again {
-            self.play(command)
-        } else {
-            said
+        if !is_undone {
+            return said;
+        }
+        self.refusals.note();
+        self.play(Command {
+            word,
+            numbers: [number.saturating_sub(made), 0, 0],
+        })
+    }
+
+    /// Pulls an item as a word says.
+    fn pulled(&self, word: &'static str) -> Result<Item<'p, F, W>, PullError> {
+        let owner: &'p Arc<Pool<F>> = &self.opened.pool;
+        let pool: &'p Pool<F> = owner;
+        match word {
+            "pull_after" => Ok(Item::Borrowed(pool.pull_after(&self.rt, pool.note())?)),
+            "renew" => {
+                let note = pool.pull(&self.rt)?.give_back();
+                Ok(Item::Borrowed(pool.pull_after(&self.rt, note)?))
+            }
+            _ if self.is_owned || word == "pull_owned" => {
+                Ok(Item::Owned(owner.pull_owned(&self.rt)?))
+            }
+            _ => Ok(Item::Borrowed(pool.pull(&self.rt)?)),
         }
     }
 
-    /// Returns all items.
-    pub fn return_all(&mut self) {
-        self.held.clear();
+    /// Attaches a value as a word says. It comes back if there is no memory.
+    fn attached(&self, word: &'static str, value: Value) -> Result<Item<'p, F, W>, Value> {
+        let owner: &'p Arc<Pool<F>> = &self.opened.pool;
+        if !self.is_owned && word == "attach" {
+            let pool: &'p Pool<F> = owner;
+            return Ok(Item::Borrowed(StackReusable::new(&self.rt, pool, value)?));
+        }
+        let Ok(owner) = Arc::try_clone(owner) else {
+            return Err(value);
+        };
+        Ok(Item::Owned(StackReusable::new(&self.rt, owner, value)?))
     }
 
     /// Holds an item.
-    fn hold(&mut self, words: &'static str, item: Item<'p, W>) -> Said {
-        let said = says(words, item.value());
+    fn hold(&mut self, words: &'static str, item: Item<'p, F, W>) -> Said {
+        let said = item.value().says(words);
         match self.held.push(Some(item)) {
             Ok(()) => said,
             Err(_) => Said::of("no room"),
         }
-    }
-
-    fn pull(&mut self, word: &'static str) -> Said {
-        let pool: &'p Pool = self.pool;
-        let pulled = match pool {
-            Pool::Mutex(owner) => pulled_of_mutex(&self.rt, owner, word),
-            Pool::SpinLock(owner) => pulled_of_spin_lock(&self.rt, owner, word),
-        };
-        match pulled {
-            Ok(item) => self.hold("pulled", item),
-            Err(cause) => refused(cause),
-        }
-    }
-
-    fn attach(&mut self, number: usize) -> Said {
-        let Some(value) = Value::new(self.book, number) else {
-            return Said::of("no owner");
-        };
-        let pool: &'p Pool = self.pool;
-        let item = attached(&self.rt, pool, value);
-        self.hold_attached(item)
-    }
-
-    fn attach_owned(&mut self, number: usize) -> Said {
-        let Some(value) = Value::new(self.book, number) else {
-            return Said::of("no owner");
-        };
-        let Some(owner) = self.pool.share() else {
-            return Said::of("no owner");
-        };
-        let item = attached_owned(&self.rt, owner, value);
-        self.hold_attached(item)
-    }
-
-    fn hold_attached(&mut self, item: Result<Item<'p, W>, Value>) -> Said {
-        match item {
-            Ok(item) => self.hold("attached", item),
-            Err(value) => says("came back", &value),
-        }
-    }
-
-    /// Lets an item go as a word says.
-    fn leave(word: &'static str, item: Item<'p, W>) -> Said {
-        match word {
-            "give_back" => item.give_back(),
-            "detach" => return says("detached", &item.detach()),
-            _ => drop(item),
-        }
-        Said::of("done")
     }
 
     /// Uses an item that is held.
@@ -412,32 +260,33 @@ impl<'p, W: Wait + Copy> StackPlayer<'p, W> {
         let Some(mut item) = place.take() else {
             return Said::of("no such item");
         };
-        match word {
-            "read" | "write" => {
-                if word == "write" {
-                    item.write(number);
-                }
-                let said = says("reads", item.value());
-                *place = Some(item);
-                said
-            }
-            _ => Self::leave(word, item),
+        if word != "read" && word != "write" {
+            return item.leave(word);
         }
+        if word == "write" {
+            item.write(number);
+        }
+        let said = item.value().says("reads");
+        *place = Some(item);
+        said
     }
 
     /// Uses the pool as a whole.
-    fn use_pool(&mut self, word: &'static str, number: usize) -> Said {
+    fn use_pool(&self, word: &'static str, number: usize) -> Said {
+        let Opened { pool, book } = self.opened;
         match word {
-            "kept" => return Said::of("keeps").and(self.pool.kept(&self.rt)),
-            "owners" => return Said::of("owners").and(self.pool.owners()),
-            "fill" => if let Err(cause) = self.pool.fill(&self.rt, number) {
-                return refused(cause);
+            "kept" => Said::of("keeps").and(pool.kept(&self.rt)),
+            "owners" => Said::of("owners").and(Arc::strong_count(pool)),
+            "fill" => match pool.fill(&self.rt, number) {
+                Ok(()) => Said::of("done"),
+                Err(cause) => refused(cause),
             },
-            "clear" => self.pool.clear(&self.rt),
-            "again" => self.tries_again = number > 0,
-            _ => return self.book.play(word, number),
+            "clear" => {
+                pool.clear(&self.rt);
+                Said::of("done")
+            }
+            _ => book.play(word, number),
         }
-        Said::of("done")
     }
 
     /// Plays a command.
@@ -447,25 +296,25 @@ impl<'p, W: Wait + Copy> StackPlayer<'p, W> {
             numbers: [number, _, _],
         } = command;
         match word {
-            "pull" if self.is_owned => self.pull("pull_owned"),
-            "pull" | "pull_owned" | "pull_after" | "renew" => self.pull(word),
-            "attach" if !self.is_owned => self.attach(number),
-            "attach" | "attach_owned" => self.attach_owned(number),
+            "pull" | "pull_owned" | "pull_after" | "renew" => match self.pulled(word) {
+                Ok(item) => self.hold("pulled", item),
+                Err(cause) => refused(cause),
+            },
+            "attach" | "attach_owned" => {
+                let Some(value) = Value::new(&self.opened.book, number) else {
+                    return Said::of("no owner");
+                };
+                match self.attached(word, value) {
+                    Ok(item) => self.hold("attached", item),
+                    Err(value) => value.says("came back"),
+                }
+            }
             "return_last" => match self.held.pop() {
-                Some(Some(item)) => Self::leave("return", item),
+                Some(Some(item)) => item.leave("return"),
                 _ => Said::of("no such item"),
             },
             "read" | "write" | "return" | "give_back" | "detach" => self.use_held(command),
             _ => self.use_pool(word, number),
         }
     }
-}
-
-/// Creates a book, with a meeting or without one.
-///
-/// # Errors
-///
-/// `Memory`.
-pub fn new_book(alloc: Global, meeting: Option<Meeting>) -> Result<Arc<Book>, PullError> {
-    Ok(Arc::new(alloc, Book::new(meeting))?)
 }

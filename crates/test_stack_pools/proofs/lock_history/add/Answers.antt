@@ -1,5 +1,5 @@
 use Rattle.std.proofs.Common.{◌≡◌, ◌-◌, ◌∷◌, ◌∙◌, ap, arith, sum}
-use Rattle.test_stack_pools.proofs.lock_history.counter.add.Goals as goal
+use Rattle.test_stack_pools.proofs.lock_history.add.Goals as goal
 
 pub returns-in-Some-clause-added : goal.returns-in-Some-clause-added
 returns-in-Some-clause-added g c =

@@ -1,5 +1,5 @@
 use Rattle.std.proofs.Common.{◌-◌, ◌∷◌, ◌∙◌, ap, sum}
-use Rattle.test_stack_pools.proofs.lock_history.counter.read_after.Goals as goal
+use Rattle.test_stack_pools.proofs.lock_history.read_after.Goals as goal
 
 pub returns-clause-after : goal.returns-clause-after
 returns-clause-after g c =
