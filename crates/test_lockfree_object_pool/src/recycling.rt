@@ -1,13 +1,21 @@
-//! A pool of a type that says itself how its values are made and reset.
-ghost use Rattle.std.specs.Prelude.{◌≡◌, ⊤, IfSome};
+//! A pool of a type that says itself how its values are made and reset, and values that take memory
+//! of their own: where that is refused, what makes them is asked once, and the pull is refused.
+ghost use Rattle.std.specs.Prelude.{◌≡◌, [], ⊤, IfSome};
 
 use crate::assert_equal::assert_equal;
-use lockfree_object_pool::PullError;
-use lockfree_object_pool::recycling::{FixedPool, MutexPool, Pool, Recyclable, SpinLockPool};
+use lockfree_object_pool::clean::{Clean, Empty};
+use lockfree_object_pool::closures::{Clear, Init, Reset, WithCapacity};
+use lockfree_object_pool::recycling::{
+    FixedPool, LazyPool, MutexPool, Pool, Recyclable, SpinLockPool,
+};
+use lockfree_object_pool::{MutexObjectPool, PullError};
+use rows::asked_again;
+use rows::refusals::Refusals;
 use std::alloc::Global;
-use std::sync::Arc;
+use std::process::Abort;
 use std::sync::atomic::AtomicUsize;
 use std::sync::atomic::Ordering::SeqCst;
+use std::sync::{Arc, Wait};
 use test_values::tallied::Tallied;
 use test_values::tally::{Tally, new_tally};
 
@@ -157,4 +165,72 @@ fn living_in_an_item(alloc: Global, tally: &Arc<Tally>) -> Option<(usize, usize)
 fn what_a_recyclable_value_holds_is_dropped_at_its_return(rt: HostRuntime) {
     let tally = new_tally(rt.alloc()).expect(&rt, "memory is left");
     assert_equal(&rt, living_in_an_item(rt.alloc(), &tally), Some((2, 0)));
+}
+
+/// A sheet that has its room from the start.
+#[derive(Drop)]
+struct Sheet {
+    letters: Vec<u8>,
+}
+
+impl Recyclable for Sheet {
+    ghost is_clean = { λ sheet. sheet.letters.items ≡ [] };
+
+    fn make(alloc: Global) -> Option<Sheet> {
+        let letters = Vec::with_capacity(alloc, 16).ok()?;
+        Some(Sheet { letters })
+    }
+
+    fn reset(&mut self) {
+        self.letters.clear();
+    }
+}
+
+/// What was pulled. A refusal by what makes the value is told as `Memory`, as that of the room for
+/// its return is.
+fn told<X: Drop>(pulled: Result<X, PullError>) -> Result<X, PullError> {
+    match pulled {
+        Err(PullError::Init) => Err(PullError::Memory),
+        pulled => pulled,
+    }
+}
+
+/// A second item is pulled while the first is held.
+fn two_are_pulled<T: Drop, I: Init<T, K>, R: Reset<T, K>, K: Clean<T>, W: Abort + Wait + Copy>(
+    rt: &W,
+    refusals: &Refusals,
+    pool: &MutexObjectPool<T, I, R, K>,
+) {
+    let first = asked_again!(rt, refusals, told(pool.pull(rt)));
+    let second = asked_again!(rt, refusals, told(pool.pull(rt)));
+    drop((first, second));
+}
+
+/// A refusal that a maker hides is missed between those of the rooms.
+#[test]
+fn values_with_room_come_again_where_memory_was_refused(rt: HostRuntime) {
+    let (alloc, refusals) = (rt.alloc(), Refusals::new());
+    two_are_pulled(&rt, &refusals, &MutexPool::<Sheet>::with_recycler(alloc));
+    let init = WithCapacity::new(alloc, 16);
+    let pool: MutexObjectPool<Vec<u8>, _, _, Empty> = MutexObjectPool::new(alloc, init, Clear);
+    two_are_pulled(&rt, &refusals, &pool);
+    refusals.tell(&rt);
+}
+
+fn lazy_pool(alloc: Global) -> Result<Arc<LazyPool<Sheet>>, PullError> {
+    Ok(Arc::new(alloc, LazyPool::with_recycler(alloc, 33)?)?)
+}
+
+/// After a refusal the place is empty, and is pulled again.
+#[test]
+fn lazy_values_with_room_come_again_where_memory_was_refused(rt: HostRuntime) {
+    let refusals = Refusals::new();
+    let pool = asked_again!(&rt, refusals, lazy_pool(rt.alloc()));
+    let first = asked_again!(&rt, refusals, told(pool.pull()));
+    let second = asked_again!(&rt, refusals, told(pool.pull_owned()));
+    let third = asked_again!(&rt, refusals, told(pool.pull_wait(&rt)));
+    asked_again!(&rt, refusals, told(pool.fill(4)));
+    let numbers = (first.number(), second.number(), third.number());
+    assert_equal(&rt, (numbers, pool.made()), ((0, 1, 2), 4));
+    refusals.tell(&rt);
 }

@@ -15,8 +15,6 @@ mod fixed_pool;
 #[cfg(test)]
 mod linear_pool;
 #[cfg(test)]
-mod makers;
-#[cfg(test)]
 mod pages;
 #[cfg(test)]
 mod players;
