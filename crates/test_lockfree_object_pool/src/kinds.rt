@@ -24,18 +24,12 @@ pub trait Pulls: Drop {
     fn pull_one(&self) -> Result<Self::Item, PullError>;
 }
 
-/// Pulls so many items, and adds them to those that are held.
-pub fn hold<P: Pulls>(pool: &P, count: usize, held: &mut Vec<P::Item>) -> Result<(), PullError> {
-    for _ in 0..count {
-        held.push(pool.pull_one()?)?;
-    }
-    Ok(())
-}
-
 /// Pulls so many items, and holds them together.
 pub fn held<P: Pulls>(alloc: Global, pool: &P, count: usize) -> Result<Vec<P::Item>, PullError> {
     let mut held = Vec::with_capacity(alloc, count)?;
-    hold(pool, count, &mut held)?;
+    for _ in 0..count {
+        held.push(pool.pull_one()?)?;
+    }
     Ok(held)
 }
 
@@ -65,12 +59,6 @@ impl Pulls for Arc<Lazy> {
     fn pull_one(&self) -> Result<Self::Item, PullError> {
         self.pull_owned()
     }
-}
-
-/// Opens a lazy pool of so many items, or of one.
-pub fn lazy_pool(alloc: Global, setting: &Arc<Setting>, items: usize) -> Result<Lazy, PullError> {
-    let (init, reset) = function_objects(setting)?;
-    LazyObjectPool::new(alloc, init, reset, items.max(1))
 }
 
 /// Makes vectors where values of a setting are made. A vector isn't tallied, so the value that
@@ -112,23 +100,22 @@ impl<'p, I: Init<Vec<u8>, Empty>, R: Reset<Vec<u8>, Empty>> Pulls for &'p Buffer
 }
 
 /// Opens a pool of as many pages as so many buffers need.
-fn buffers(alloc: Global, setting: &Arc<Setting>, items: usize) -> Result<Buffers, PullError> {
-    let (values, _) = function_objects(setting)?;
+fn buffers(
+    alloc: Global,
+    values: Makes,
+    setting: &Arc<Setting>,
+    items: usize,
+) -> Result<Buffers, PullError> {
     let init = MakesBuffers { alloc, values };
     let setting = Arc::try_clone(setting)?;
-    BufferPool::new(
-        alloc,
-        init,
-        ClearsBuffers { setting },
-        items.div_ceil(32).max(1),
-    )
+    let pages = items.div_ceil(32).max(1);
+    BufferPool::new(alloc, init, ClearsBuffers { setting }, pages)
 }
 
 #[test]
 fn a_pool_whose_init_refuses_at_once_is_not_made(rt: HostRuntime) {
-    let setting = Setting::new(rt.alloc(), 0).expect(&rt, "memory is left");
-    let refusal = buffers(rt.alloc(), &setting, 32).err();
-    assert_equal(&rt, refusal, Some(PullError::Init));
+    let ending = end_of("buffers", rt.alloc(), 0, 32);
+    assert_equal(&rt, ending, Ok((Err(PullError::Init), (1, 0), 0)));
 }
 
 #[test]
@@ -149,54 +136,34 @@ fn played(replied: Result<Reply<Tallied>, RunError>) -> Result<(), PullError> {
     }
 }
 
-/// A player pulls so many items.
-fn pull<P: SequentialPool<Tallied>>(
-    player: &mut Player<Tallied, P>,
-    items: usize,
-) -> Result<(), PullError> {
-    for _ in 0..items {
-        played(player.play(Command::Pull))?;
-    }
-    Ok(())
-}
+pub type Linear = LinearCore<Tallied, Makes, Resets, AnyValue>;
 
-/// A player returns so many items, from this index on.
-fn give_back<P: SequentialPool<Tallied>>(
-    player: &mut Player<Tallied, P>,
-    first: usize,
-    items: usize,
-) -> Result<(), PullError> {
-    for index in 0..items {
-        played(player.play(Command::Return(first.saturating_add(index))))?;
-    }
-    Ok(())
-}
+pub type Stack = StackCore<Tallied, Makes, Resets, AnyValue>;
 
-/// A player holds items and returns them, twice, and ends.
+/// A player of a core holds items and returns them, twice, and ends.
 fn play<P: SequentialPool<Tallied> + Drop>(
-    mut player: Player<Tallied, P>,
+    alloc: Global,
+    core: P,
     items: usize,
 ) -> Result<(), PullError> {
+    let mut player = Player::new(alloc, core);
     for first in [0, items] {
-        pull(&mut player, items)?;
-        give_back(&mut player, first, items)?;
+        for _ in 0..items {
+            played(player.play(Command::Pull))?;
+        }
+        for index in first..first.saturating_add(items) {
+            played(player.play(Command::Return(index)))?;
+        }
     }
     Ok(())
 }
 
-fn play_linear(alloc: Global, setting: &Arc<Setting>, items: usize) -> Result<(), PullError> {
-    let (init, reset) = function_objects(setting)?;
-    let core: LinearCore<Tallied, Makes, Resets, AnyValue> = LinearCore::new(alloc, init, reset)?;
-    play(Player::new(alloc, core), items)
-}
+pub type Tracked = World<Tallied, Resets>;
 
-fn play_stack(alloc: Global, setting: &Arc<Setting>, items: usize) -> Result<(), PullError> {
-    let (init, reset) = function_objects(setting)?;
-    let core: StackCore<Tallied, Makes, Resets, AnyValue> = StackCore::new(alloc, init, reset);
-    play(Player::new(alloc, core), items)
+/// The values of a page of a world.
+pub fn page(alloc: Global, init: &Makes) -> Result<Prepared<Tallied>, PullError> {
+    Prepared::make(alloc, &|| init.make())
 }
-
-type Tracked = World<Tallied, Resets>;
 
 /// A step that is enabled. It is refused where there is no memory.
 fn done(world: &mut Tracked, event: Event<Tallied>) -> Result<Seen, PullError> {
@@ -219,86 +186,51 @@ fn begin(world: &mut Tracked, alloc: Global, init: &Makes, agent: usize) -> Resu
             return Ok(());
         }
         if let Seen::Next(_, false) = done(world, Event::ReadNext(agent))? {
-            let page = Prepared::make(alloc, &|| init.make());
-            done(world, Event::MakePage(agent, page))?;
+            done(world, Event::MakePage(agent, page(alloc, init)))?;
             done(world, Event::ExchangeNext(agent))?;
         }
     }
     Err(PullError::Limit)
 }
 
-/// So many agents, from this one on, hold items together.
-fn begin_all(
-    world: &mut Tracked,
-    alloc: Global,
-    init: &Makes,
-    (first, agents): (usize, usize),
-) -> Result<(), PullError> {
-    for agent in 0..agents {
-        begin(world, alloc, init, first.saturating_add(agent))?;
-    }
-    Ok(())
-}
-
-/// So many agents, from this one on, return their items.
-fn give_all(world: &mut Tracked, first: usize, agents: usize) -> Result<(), PullError> {
-    for agent in 0..agents {
-        done(world, Event::MoveHome(first.saturating_add(agent)))?;
-        done(world, Event::OrMask(first.saturating_add(agent)))?;
-    }
-    Ok(())
-}
-
 /// Agents hold so many items and return them, and others do the same.
-fn use_world(alloc: Global, setting: &Arc<Setting>, items: usize) -> Result<(), PullError> {
-    let (init, reset) = function_objects(setting)?;
-    let first = Prepared::make(alloc, &|| init.make())?;
-    let mut world = World::new(alloc, first, reset)?;
+fn use_world(alloc: Global, init: &Makes, reset: Resets, items: usize) -> Result<(), PullError> {
+    let mut world = World::new(alloc, page(alloc, init)?, reset)?;
     for first in [0, items] {
-        begin_all(&mut world, alloc, &init, (first, items))?;
-        give_all(&mut world, first, items)?;
+        let end = first.saturating_add(items);
+        for agent in first..end {
+            begin(&mut world, alloc, init, agent)?;
+        }
+        for agent in first..end {
+            done(&mut world, Event::MoveHome(agent))?;
+            done(&mut world, Event::OrMask(agent))?;
+        }
     }
     Ok(())
 }
 
-/// What is opened, used and let go.
-#[derive(Clone, Copy, Debug)]
-enum Kind {
-    LazyPool,
-    /// A lazy pool that ends with the last of its items.
-    OwnedLazyPool,
-    BufferPool,
-    LinearPlayer,
-    StackPlayer,
-    World,
-}
-
-const KINDS: [Kind; 6] = [
-    Kind::LazyPool,
-    Kind::OwnedLazyPool,
-    Kind::BufferPool,
-    Kind::LinearPlayer,
-    Kind::StackPlayer,
-    Kind::World,
-];
+/// What is opened, used and let go: of two lazy pools one that ends with the last of its items, a
+/// pool of buffers, players of two cores, and a world.
+const KINDS: [&str; 6] = ["lazy", "owned", "buffers", "linear", "stack", "world"];
 
 /// Opens one, holds so many items together, twice, and lets all go.
 fn use_up(
-    kind: Kind,
+    kind: &str,
     alloc: Global,
     setting: &Arc<Setting>,
     items: usize,
 ) -> Result<(), PullError> {
+    let (init, reset) = function_objects(setting)?;
     match kind {
-        Kind::LazyPool => hold_twice(alloc, &lazy_pool(alloc, setting, items)?, items),
-        Kind::OwnedLazyPool => {
-            let pool = Arc::new(alloc, lazy_pool(alloc, setting, items)?)?;
-            hold_twice(alloc, pool, items)
+        "lazy" => hold_twice(alloc, &Lazy::new(alloc, init, reset, items.max(1))?, items),
+        "owned" => {
+            let pool = Lazy::new(alloc, init, reset, items.max(1))?;
+            hold_twice(alloc, Arc::new(alloc, pool)?, items)
         }
-        Kind::BufferPool => hold_twice(alloc, &buffers(alloc, setting, items)?, items),
-        Kind::LinearPlayer => play_linear(alloc, setting, items),
-        Kind::StackPlayer => play_stack(alloc, setting, items),
-        Kind::World => use_world(alloc, setting, items),
+        "buffers" => hold_twice(alloc, &buffers(alloc, init, setting, items)?, items),
+        "linear" => play(alloc, Linear::new(alloc, init, reset)?, items),
+        "stack" => play(alloc, Stack::new(alloc, init, reset), items),
+        _ => use_world(alloc, &init, reset, items),
     }
 }
 
@@ -307,7 +239,7 @@ fn use_up(
 type Ending = (Result<(), PullError>, (usize, usize), usize);
 
 /// Uses one whose `init` refuses this call, counted from 0.
-fn end_of(kind: Kind, alloc: Global, refused: usize, items: usize) -> Result<Ending, PullError> {
+fn end_of(kind: &str, alloc: Global, refused: usize, items: usize) -> Result<Ending, PullError> {
     let setting = Setting::new(alloc, refused)?;
     let used = use_up(kind, alloc, &setting, items);
     let tally = &setting.tally;
@@ -318,13 +250,13 @@ fn end_of(kind: Kind, alloc: Global, refused: usize, items: usize) -> Result<End
 
 /// If nothing is refused, all is dropped, each item was reset at each return, and no more were made
 /// than pages of them.
-fn ends_after_use(rt: &impl Abort, alloc: Global, kind: Kind, items: usize) {
+fn ends_after_use(rt: &impl Abort, alloc: Global, kind: &str, items: usize) {
     let ending = end_of(kind, alloc, NEVER, items).expect(rt, "memory is left");
     let (used, (calls, resets), left) = ending;
     let expected = (Ok(()), items.wrapping_mul(2), 0);
     assert_equal(rt, (used, resets, left), expected);
     let beside = calls.max(1).wrapping_sub(items.max(1));
-    assert!(*rt; beside < 32, "{calls} made for {items} items of {kind:?}");
+    assert!(*rt; beside < 32, "{calls} made for {items} items of {kind}");
 }
 
 /// How many items are held, and how many calls of `init` there are at least: of pages the fourth
@@ -333,7 +265,7 @@ const ITEMS: usize = 100;
 
 /// `init` refuses at each of a hundred calls: it isn't asked again, its refusal is told as such,
 /// and all is dropped.
-fn ends_where_init_refuses(rt: &impl Abort, alloc: Global, kind: Kind) {
+fn ends_where_init_refuses(rt: &impl Abort, alloc: Global, kind: &str) {
     for refused in 0..ITEMS {
         let ending = end_of(kind, alloc, refused, ITEMS).expect(rt, "memory is left");
         let (used, (calls, _), left) = ending;
@@ -354,18 +286,14 @@ fn what_each_owns_is_dropped(rt: HostRuntime) {
 /// pools and cores of 300,000 items and more.
 const MOST_HELD: usize = 2_049;
 
-fn ends_at_each_size(rt: &impl Abort, alloc: Global, kind: Kind) {
-    for items in SIZES {
-        if items <= MOST_HELD {
-            ends_after_use(rt, alloc, kind, items);
-        }
-    }
-}
-
 #[test]
 fn items_of_each_size_come_back(rt: HostRuntime) {
     for kind in KINDS {
-        ends_at_each_size(&rt, rt.alloc(), kind);
+        for items in SIZES {
+            if items <= MOST_HELD {
+                ends_after_use(&rt, rt.alloc(), kind, items);
+            }
+        }
     }
 }
 

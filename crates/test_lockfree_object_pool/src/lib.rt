@@ -2,23 +2,16 @@
 //! way, and what is told of the linear pool, of the fixed pool, and of what makes and resets.
 //!
 //! `kinds`: what each owns is dropped once, whichever call of `init` refuses and whichever request
-//! for memory is refused. `no_memory`: calls that ask for none. `texts`, `differences`: how each
-//! type is shown, compared and hashed. `lazy_threads`: lazy pools that discard beside other
-//! threads. `channels`, `sends`: what goes from thread to thread.
+//! for memory is refused. `no_memory`: calls that ask for none. `texts`: how each type is shown,
+//! compared and hashed. `threads`, `sends`: what goes from thread to thread.
 #![tactic(auto)]
 
 #[cfg(test)]
 mod assert_equal;
 #[cfg(test)]
-mod channels;
-#[cfg(test)]
-mod differences;
-#[cfg(test)]
 mod fixed_object_pool;
 #[cfg(test)]
 mod kinds;
-#[cfg(test)]
-mod lazy_threads;
 #[cfg(test)]
 mod linear_object_pool;
 #[cfg(test)]
@@ -26,8 +19,8 @@ mod makers;
 #[cfg(test)]
 mod no_memory;
 #[cfg(test)]
-mod recycling;
-#[cfg(test)]
 mod sends;
 #[cfg(test)]
 mod texts;
+#[cfg(test)]
+mod threads;

@@ -1,6 +1,6 @@
 //! The linear pool in use: what callers know of a pulled value, of its place, of a refusal, and of
 //! the history of the first page.
-ghost use Rattle.std.specs.Prelude.{◌≡◌, ◌⊎◌, ◌↔◌, ℕ, ◌∷◌, ⊤, None, Some, IfOk, IfSome, IsTrue};
+ghost use Rattle.std.specs.Prelude.{◌≡◌, ◌⊎◌, ◌↔◌, ℕ, ◌∷◌, None, Some, IfOk, IfSome, IsTrue};
 ghost use Rattle.linear_pools.specs.LinearPool.{linear_view};
 ghost use Rattle.lockfree_object_pool.specs.Ledger.{History, WasReturned};
 ghost use Rattle.lockfree_object_pool.specs.Walk.{IsLastFull};
@@ -10,8 +10,8 @@ ghost use Rattle.pool_parts.specs.declared.pull_error.PullError.TheVariants.{Mem
 ghost use Rattle.test_lockfree_object_pool.specs.Returned.{EndsWithReturnOf, WasReturnedBefore, WasUsedSince};
 
 use crate::assert_equal::assert_equal;
-use lockfree_object_pool::clean::{AnyValue, Clean};
-use lockfree_object_pool::closures::{Copied, Init, Keep, Reset};
+use lockfree_object_pool::clean::AnyValue;
+use lockfree_object_pool::closures::{Copied, Keep, Reset};
 use lockfree_object_pool::linear_object_pool::AnswerOf;
 use lockfree_object_pool::linear_page::{LimitSeen, WalkRefusal};
 use lockfree_object_pool::made_or_reset::MadeOrReset;
@@ -20,48 +20,19 @@ use lockfree_object_pool::{
     FixedReusable, LinearObjectPool, LinearOwnedReusable, LinearReusable, PullError,
 };
 use std::alloc::Global;
-use std::mem;
-use std::mem::size_of;
+use std::mem::{self, size_of};
 use std::process::Abort;
 use std::sync::Arc;
-use test_values::zeros::Zero;
+use test_values::zeros::{CountedZeros, Zero, new_calls};
 
-/// Pulls a value with an owner of the pool. It meets the condition, whatever other threads do.
-fn pulled_owned<K: Clean<u32>, I: Init<u32, K>, R: Reset<u32, K>>(
-    pool: &Arc<LinearObjectPool<u32, I, R, K>>,
-) -> Option<u32>
-    ensures { IfSome result K.meets }
-{
-    Some(*pool.pull_owned().ok()?)
-}
+/// What makes zeros, and what resets to 0.
+type Zeros = Copied<u32, Zero>;
 
-/// A write changes the value alone.
-fn write<K: Clean<u32>, I: Init<u32, K>, R: Reset<u32, K>>(
-    item: &mut LinearReusable<'_, u32, I, R, K>,
-    value: u32,
-)
-    ensures item { item.new.item ≡ record item.old.item { value = value } }
-    ensures pool { item.new.pool ≡ item.old.pool }
-    ensures number { item.new.number ≡ item.old.number }
-{
-    **item = value;
-}
-
-fn write_owned<K: Clean<u32>, I: Init<u32, K>, R: Reset<u32, K>>(
-    item: &mut LinearOwnedReusable<u32, I, R, K>,
-    value: u32,
-)
-    ensures item { item.new.item ≡ record item.old.item { value = value } }
-    ensures pool { item.new.pool ≡ item.old.pool }
-    ensures number { item.new.number ≡ item.old.number }
-{
-    **item = value;
-}
+/// A pool that resets to 0.
+type ClearedPool = LinearObjectPool<u32, Zeros, Zeros, Zero>;
 
 /// What is read is what was written last, and the item keeps its place.
-fn read_back<K: Clean<u32>, I: Init<u32, K>, R: Reset<u32, K>>(
-    mut item: LinearReusable<'_, u32, I, R, K>,
-) -> (usize, u8, u32)
+fn read_back(mut item: LinearReusable<'_, u32, Zeros, Zeros, Zero>) -> (usize, u8, u32)
     ensures number { result.0 ≡ item.entry.number.number }
     ensures id { result.1 ≡ item.entry.item.id }
     ensures value { result.2 ≡ 9 }
@@ -71,22 +42,13 @@ fn read_back<K: Clean<u32>, I: Init<u32, K>, R: Reset<u32, K>>(
     (item.page_number(), item.page_id(), *item)
 }
 
-/// What makes zeros, and what resets to 0.
-type Zeros = Copied<u32, Zero>;
-
-/// A pool that resets to 0.
-type ClearedPool = LinearObjectPool<u32, Zeros, Zeros, Zero>;
-
-/// With page number 0 the item is of the pool's first page.
-fn of_first<'p>(pool: &'p ClearedPool) -> Option<LinearReusable<'p, u32, Zeros, Zeros, Zero>>
-    ensures { IfSome result (λ item. item.item.page ≡ (linear_view pool.now).start.page.identity) }
+/// A write changes the value alone.
+fn write(item: &mut LinearOwnedReusable<u32, Zeros, Zeros, Zero>, value: u32)
+    ensures item { item.new.item ≡ record item.old.item { value = value } }
+    ensures pool { item.new.pool ≡ item.old.pool }
+    ensures number { item.new.number ≡ item.old.number }
 {
-    let item = pool.pull().ok()?;
-    if item.page_number() == 0 {
-        Some(item)
-    } else {
-        None
-    }
+    **item = value;
 }
 
 /// Where there is no limit and `init` always has an answer, a pull is refused for memory alone.
@@ -97,31 +59,17 @@ fn refusal(pool: &ClearedPool) -> Option<PullError>
     pool.pull().err()
 }
 
-/// A value that is written, and what is read back then.
-fn written(pool: &ClearedPool) -> Option<(u32, (usize, u8, u32))> {
-    let mut item = pool.pull().ok()?;
-    write(&mut item, 7);
-    Some((*item, read_back(item)))
-}
-
-/// A value that is written to an owned item.
-fn owned_written(pool: &Arc<ClearedPool>) -> Option<u32> {
-    let mut item = pool.pull_owned().ok()?;
-    write_owned(&mut item, 7);
-    Some(*item)
-}
-
 #[test]
 fn a_value_is_written_and_read(rt: HostRuntime) {
     let pool = ClearedPool::new(rt.alloc(), Copied::new(0), Copied::new(0));
     let pool = pool.expect(&rt, "a pool is made");
     assert_equal(&rt, refusal(&pool), None);
-    assert_equal(&rt, written(&pool), Some((7, (0, 0, 9))));
+    let item = pool.pull().expect(&rt, "an item is free");
+    assert_equal(&rt, (*item, read_back(item)), (0, (0, 0, 9)));
     let pool = Arc::new(rt.alloc(), pool).expect(&rt, "memory is left");
-    assert_equal(&rt, owned_written(&pool), Some(7));
-    assert_equal(&rt, pulled_owned(&pool), Some(0));
-    let first = of_first(&pool).expect(&rt, "an item is free");
-    assert_equal(&rt, *first, 0);
+    let mut item = pool.pull_owned().expect(&rt, "an item is free");
+    write(&mut item, 7);
+    assert_equal(&rt, *item, 7);
 }
 
 /// Under a limit of one page each item is of page 0.
@@ -131,11 +79,6 @@ fn page_of_one(alloc: Global) -> Result<usize, PullError>
     let pool: ClearedPool = LinearObjectPool::with_limit(alloc, Copied::new(0), Copied::new(0), 1)?;
     let number = pool.pull()?.page_number();
     Ok(number)
-}
-
-#[test]
-fn a_limit_of_one_page(rt: HostRuntime) {
-    assert_equal(&rt, page_of_one(rt.alloc()), Ok(0));
 }
 
 /// The evidence of the last page.
@@ -153,45 +96,30 @@ fn last_full_page<'p>(pool: &ClearedPool, pass: &'p PullPass) -> Option<LastSeen
     }
 }
 
-/// The number of that page.
-fn number_of_last(pool: &ClearedPool) -> Option<usize> {
-    let pass = PullPass::new();
-    let last = last_full_page(pool, &pass)?;
-    Some(last.number.get())
-}
-
 #[test]
-fn a_refused_pull_saw_the_last_page_full(rt: HostRuntime) {
+fn each_item_is_of_a_page_below_the_limit(rt: HostRuntime) {
+    assert_equal(&rt, page_of_one(rt.alloc()), Ok(0));
     let pool = ClearedPool::with_limit(rt.alloc(), Copied::new(0), Copied::new(0), 3);
     let pool = pool.expect(&rt, "a pool is made");
     for _ in 0..95 {
         mem::forget(pool.pull().expect(&rt, "an item is free"));
     }
     let item = pool.pull().expect(&rt, "an item is free");
-    assert_equal(&rt, number_of_last(&pool), Some(2));
+    let pass = PullPass::new();
+    let last = last_full_page(&pool, &pass).expect(&rt, "the pool is at its limit");
+    assert_equal(&rt, last.number.get(), 2);
     drop(item);
-    assert_equal(&rt, number_of_last(&pool), None);
+    assert!(rt; last_full_page(&pool, &pass).is_none());
 }
 
-/// Makes sevens.
-#[derive(Drop)]
-struct Sevens;
+/// A pool whose `init` answers 0.
+type ZeroPool<R> = LinearObjectPool<u32, CountedZeros, R, AnyValue>;
 
-impl Init<u32, AnyValue> for Sevens {
-    ghost answers = { λ _ answer. answer ≡ Some 7 };
-
-    fn make(&self) -> Option<u32> {
-        Some(7)
-    }
-}
-
-type SevenPool<R> = LinearObjectPool<u32, Sevens, R, AnyValue>;
-
-/// Whatever the resets do: a pulled value is 7, or what the last return of this very item left.
+/// Whatever the resets do: a pulled value is 0, or what the last return of this very item left.
 fn pulled<'p, R: Reset<u32, AnyValue>>(
-    pool: &'p SevenPool<R>,
-) -> Option<LinearReusable<'p, u32, Sevens, R, AnyValue>>
-    ensures { IfSome result (λ item. (item.item.value ≡ 7) ⊎ ((before : History ℕ)
+    pool: &'p ZeroPool<R>,
+) -> Option<LinearReusable<'p, u32, CountedZeros, R, AnyValue>>
+    ensures { IfSome result (λ item. (item.item.value ≡ 0) ⊎ ((before : History ℕ)
         × (item.item.history ≡ Pull item.item.holder item.item.id item.item.value ∷ before)
         × WasReturned before item.item.id item.item.value)) }
 {
@@ -201,26 +129,15 @@ fn pulled<'p, R: Reset<u32, AnyValue>>(
     }
 }
 
-/// Leaves one more than there was.
-#[derive(Drop)]
-struct OneMore;
-
-impl Reset<u32, AnyValue> for OneMore {
-    ghost leaves = { λ _ _ _. ⊤ };
-
-    fn reset(&self, value: &mut u32) {
-        *value = value.wrapping_add(1);
-    }
-}
-
 #[test]
 fn a_value_is_an_answer_or_what_a_return_left(rt: HostRuntime) {
-    let pool = SevenPool::new(rt.alloc(), Sevens, OneMore).expect(&rt, "a pool is made");
-    for expected in [7, 8, 9] {
-        let Some(item) = pulled(&pool) else {
-            panic!(rt; "an item is free")
-        };
+    let calls = new_calls(rt.alloc()).expect(&rt, "memory is left");
+    let pool = ZeroPool::new(rt.alloc(), CountedZeros { calls }, Keep);
+    let pool = pool.expect(&rt, "a pool is made");
+    for expected in [0, 1, 2] {
+        let mut item = pulled(&pool).expect(&rt, "an item is free");
         assert_equal(&rt, *item, expected);
+        *item = item.wrapping_add(1);
     }
 }
 
@@ -281,9 +198,7 @@ fn found_after_eight(rt: &impl Abort, alloc: Global, is_used: bool) -> (u32, boo
     if is_used {
         *pool.pull().expect(rt, "an item is free") = 9;
     }
-    let Some((item, is_same)) = pulled_again(&pool, note, 8) else {
-        panic!(*rt; "item 0 is free")
-    };
+    let (item, is_same) = pulled_again(&pool, note, 8).expect(rt, "item 0 is free");
     (*item, is_same)
 }
 
@@ -297,19 +212,8 @@ fn a_value_that_was_returned_is_pulled_again_or_was_used(rt: HostRuntime) {
 #[test]
 fn a_reusable_is_as_large_as_its_parts(rt: HostRuntime) {
     type Numbers = Copied<u64, AnyValue>;
-    assert_equal(
-        &rt,
-        size_of::<LinearReusable<'static, u64, Numbers, Keep>>(),
-        40,
-    );
-    assert_equal(
-        &rt,
-        size_of::<LinearOwnedReusable<u64, Numbers, Keep>>(),
-        32,
-    );
-    assert_equal(
-        &rt,
-        size_of::<FixedReusable<'static, u64, Numbers, Keep>>(),
-        24,
-    );
+    let linear = size_of::<LinearReusable<'static, u64, Numbers, Keep>>();
+    let owned = size_of::<LinearOwnedReusable<u64, Numbers, Keep>>();
+    let fixed = size_of::<FixedReusable<'static, u64, Numbers, Keep>>();
+    assert_equal(&rt, (linear, owned, fixed), (40, 32, 24));
 }

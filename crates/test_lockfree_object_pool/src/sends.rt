@@ -7,12 +7,8 @@ use lockfree_object_pool::{
     FixedObjectPool, FixedOwnedReusable, FixedReusable, LinearObjectPool, LinearOwnedReusable,
     LinearReusable, MutexObjectPool, SpinLockObjectPool,
 };
-use std::alloc::Global;
-use std::cell::Cell;
 use std::ops::Deref;
-use std::process::Abort;
-use std::thread;
-use std::thread::Threads;
+use std::thread::{self, Threads};
 
 /// Takes what may be sent to another thread.
 fn is_sent<X: Send>(_value: &X) {}
@@ -31,24 +27,15 @@ fn pools_sent<
     is_sent(fixed);
 }
 
+/// Pools that may be shared, and their items, which may be sent then.
 fn pools_shared<
     T: Send + Drop,
     I: Init<T, K> + Send + Sync,
     J: Init<T, K>,
     R: Reset<T, K> + Send + Sync,
     K: Clean<T>,
->(linear: &LinearObjectPool<T, I, R, K>, fixed: &FixedObjectPool<T, J, R, K>) {
-    is_shared(linear);
-    is_shared(fixed);
-}
-
-fn reusables_sent<
-    T: Send + Drop,
-    I: Init<T, K> + Send + Sync,
-    J: Init<T, K>,
-    R: Reset<T, K> + Send + Sync,
-    K: Clean<T>,
 >(
+    pools: (&LinearObjectPool<T, I, R, K>, &FixedObjectPool<T, J, R, K>),
     linear: (
         &LinearReusable<'_, T, I, R, K>,
         &LinearOwnedReusable<T, I, R, K>,
@@ -58,6 +45,8 @@ fn reusables_sent<
         &FixedOwnedReusable<T, J, R, K>,
     ),
 ) {
+    is_shared(pools.0);
+    is_shared(pools.1);
     is_sent(linear.0);
     is_sent(linear.1);
     is_sent(fixed.0);
@@ -102,7 +91,7 @@ fn two_threads_read_one_item(rt: HostRuntime) {
 }
 
 /// Pools by closures, of values that may be sent and not shared, and an item: a linear pool by a
-/// closure that resets and one by none, and a fixed pool.
+/// closure that resets and one by none, a fixed pool, and those behind a lock.
 fn pools_of_closures<
     T: Send + Drop,
     I: InitBy<T> + Send + Sync,
@@ -113,81 +102,27 @@ fn pools_of_closures<
     item: &LinearReusable<'_, T, Makes<T, I, AnyValue>, Resets<T, R, AnyValue>>,
     kept: &LinearObjectPool<T, Makes<T, I, AnyValue>, Kept<T, AnyValue>>,
     fixed: &FixedObjectPool<T, Makes<T, J, AnyValue>, Resets<T, R, AnyValue>>,
-) {
-    pools_sent(linear, fixed);
-    pools_shared(linear, fixed);
-    is_sent(item);
-    is_sent(kept);
-    is_shared(kept);
-}
-
-fn stack_pools_of_closures<T: Send + Drop, I: InitBy<T> + Send + Sync, R: ResetBy<T> + Send + Sync>(
     mutex: &MutexObjectPool<T, Makes<T, I, AnyValue>, Resets<T, R, AnyValue>>,
     spin_lock: &SpinLockObjectPool<T, Makes<T, I, AnyValue>, Resets<T, R, AnyValue>>,
 ) {
+    pools_sent(linear, fixed);
+    is_shared(linear);
+    is_shared(fixed);
+    is_sent(item);
+    is_sent(kept);
+    is_shared(kept);
     is_sent(mutex);
     is_shared(mutex);
     is_sent(spin_lock);
     is_shared(spin_lock);
 }
 
-/// A maker by a closure may be shared where its values may only be sent.
-fn maker_is_shared<T: Send + Drop, F: InitBy<T> + Sync, K: Clean<T> + Send>(
+/// A maker by a closure, and a reset that changes nothing, may be shared where their values may only
+/// be sent.
+fn parts_shared<T: Send + Drop, F: InitBy<T> + Sync, K: Clean<T> + Send>(
     maker: &Makes<T, F, K>,
+    kept: &Kept<T, K>,
 ) {
     is_shared(maker);
-}
-
-/// A reset that changes nothing may be shared where its values may only be sent.
-fn kept_is_shared<T: Send + Drop, K: Clean<T> + Send>(kept: &Kept<T, K>) {
     is_shared(kept);
-}
-
-/// A pool of cells, each of which one thread at a time may read and write.
-type Cells<I, R> = LinearObjectPool<
-    Cell<u32>,
-    Makes<Cell<u32>, I, AnyValue>,
-    Resets<Cell<u32>, R, AnyValue>,
->;
-
-/// What a cell holds once 1 was added to it.
-fn one_more(cell: &Cell<u32>) -> u32 {
-    cell.set(cell.get().saturating_add(1));
-    cell.get()
-}
-
-/// The same of a cell of the pool.
-fn added<I: InitBy<Cell<u32>>, R: ResetBy<Cell<u32>>>(pool: &Cells<I, R>) -> Option<u32> {
-    Some(one_more(&*pool.pull().ok()?))
-}
-
-/// What two threads come to that share a pool.
-fn added_by_two<
-    I: InitBy<Cell<u32>> + Send + Sync,
-    R: ResetBy<Cell<u32>> + Send + Sync,
-    W: Abort + Threads + Sync,
->(rt: &W, alloc: Global, init: I, reset: R) -> (Option<u32>, Option<u32>)
-    requires may_make { I.may_make init }
-    requires may_reset { R.may_reset reset }
-{
-    let pool: Cells<I, R> = LinearObjectPool::new(
-        alloc,
-        Makes::new(init),
-        Resets::new(reset),
-    ).expect(rt, "a pool is made");
-    thread::join(rt, || added(&pool), || added(&pool))
-}
-
-fn new_five() -> Option<Cell<u32>> {
-    Some(Cell::new(5))
-}
-
-fn set_five(cell: &mut Cell<u32>) {
-    cell.set(5);
-}
-
-#[test]
-fn two_threads_share_a_pool_of_cells(rt: HostRuntime) {
-    let found = added_by_two(&rt, rt.alloc(), new_five, set_five);
-    assert_equal(&rt, found, (Some(6), Some(6)));
 }

@@ -1,25 +1,27 @@
-//! The texts of pools, items, guards, and of what makes and resets.
+//! How types are shown, compared and hashed: pools, items, guards, what makes and resets, and the
+//! causes and answers, of which different ones differ.
 ghost use Rattle.std.specs.Prelude.{◌≤◌};
 
 use crate::assert_equal::{assert_equal, assert_shown};
-use crate::no_memory::new_seven;
 use lockfree_object_pool::clean::{AnyValue, Empty};
-use lockfree_object_pool::closures::{Clear, Copied, Keep, WithCapacity};
+use lockfree_object_pool::closures::{Clear, Keep, WithCapacity};
 use lockfree_object_pool::free_list::FreeList;
 use lockfree_object_pool::made_or_reset::MadeOrReset;
-use lockfree_object_pool::page::{Allocated, Page, PullPass};
 use lockfree_object_pool::recycling::{
     FixedPool, LazyPool, MutexPool, Pool, Recycler, SpinLockPool,
 };
 use lockfree_object_pool::spin_lock::SpinLock;
 use lockfree_object_pool::stack_object_pool::StackObjectPool;
 use lockfree_object_pool::stack_reusable::{SharedStackPool, StackReusable};
-use lockfree_object_pool::{
-    LinearObjectPool, MutexObjectPool, MutexReusable, NoneObjectPool, PullError, SpinLockObjectPool,
-};
+use lockfree_object_pool::{NoneObjectPool, PullError};
 use object_pool_cores::buffers::BufferPool;
+use object_pool_cores::engine::{EngineError, Kind, Reset};
+use object_pool_cores::interleave::Seen;
+use object_pool_cores::sequential::{AttachError, Command, Reply, RunError};
 use std::alloc::Global;
-use std::fmt::Debug;
+use std::collections::HashSet;
+use std::fmt::{Debug, Display};
+use std::hash::Hash;
 use std::ops::DerefMut;
 use std::process::Abort;
 use std::sync::{Arc, Wait};
@@ -120,94 +122,49 @@ fn stack_item_is_shown<P: SharedStackPool<Vec<u8>>, W: Abort + Wait + Copy>(
     item_is_shown(rt, alloc, pulled);
 }
 
+/// The items of a stack pool are shown. The pool, in which they are.
 fn stack_items_are_shown<F: FreeList<Vec<u8>, Recycled>, W: Abort + Wait + Copy>(
     rt: &W,
     alloc: Global,
-    pool: &Arc<Stack<F>>,
-) {
+    pool: Stack<F>,
+) -> Arc<Stack<F>> {
+    let pool = Arc::new(alloc, pool).expect(rt, "memory is left");
     stack_item_is_shown(rt, alloc, pool.pull(rt));
     stack_item_is_shown(rt, alloc, pool.pull_owned(rt));
-}
-
-fn mutex_is_shown<W: Abort + Wait + Copy>(rt: &W, alloc: Global) {
-    let pool = MutexPool::<Vec<u8>>::with_recycler(alloc);
-    let pool = Arc::new(alloc, pool).expect(rt, "memory is left");
-    stack_items_are_shown(rt, alloc, &pool);
-    let text = "MutexObjectPool { .. }";
-    shows(rt, alloc, &*pool, text, text);
-}
-
-fn spin_lock_is_shown<W: Abort + Wait + Copy>(rt: &W, alloc: Global) {
-    let pool = SpinLockPool::<Vec<u8>>::with_recycler(alloc).expect(rt, "a pool is made");
-    let pool = Arc::new(alloc, pool).expect(rt, "memory is left");
-    stack_items_are_shown(rt, alloc, &pool);
-    let text = "SpinLockObjectPool { .. }";
-    shows(rt, alloc, &*pool, text, text);
+    pool
 }
 
 /// Beside the pools, a guard of a spin lock shows the value that is written to it.
 #[test]
 fn each_pool_that_waits_is_shown(rt: HostRuntime) {
     let alloc = rt.alloc();
-    mutex_is_shown(&rt, alloc);
-    spin_lock_is_shown(&rt, alloc);
+    let pool = stack_items_are_shown(&rt, alloc, MutexPool::with_recycler(alloc));
+    let text = "MutexObjectPool { .. }";
+    shows(&rt, alloc, &*pool, text, text);
+    let pool = SpinLockPool::with_recycler(alloc).expect(&rt, "a pool is made");
+    let pool = stack_items_are_shown(&rt, alloc, pool);
+    let text = "SpinLockObjectPool { .. }";
+    shows(&rt, alloc, &*pool, text, text);
     let lock = SpinLock::new(alloc, Vec::<u8>::new(alloc)).expect(&rt, "memory is left");
     item_is_shown(&rt, alloc, Ok(lock.lock(&rt)));
 }
-
-/// A pool of copies that keeps what was written last.
-type Linear = LinearObjectPool<u32, Copied<u32, AnyValue>, Keep>;
 
 /// The limit of a pool is shown by this text.
 fn limit_is_shown(rt: &impl Abort, alloc: Global, pages: usize, text: &str)
     requires { 1 ≤ pages }
 {
-    let pool: Result<Linear, _> = LinearObjectPool::with_limit(alloc, Copied::new(7), Keep, pages);
-    assert_shown(rt, alloc, &pool.expect(rt, "a pool is made"), text);
+    let pool = Pool::<Vec<u8>>::with_recycler_within(alloc, pages).expect(rt, "a pool is made");
+    assert_shown(rt, alloc, &pool, text);
 }
 
 #[test]
 fn each_limit_is_shown(rt: HostRuntime) {
     let alloc = rt.alloc();
-    let one = "LinearObjectPool { limit: Some(1), .. }";
-    limit_is_shown(&rt, alloc, 1, one);
+    limit_is_shown(&rt, alloc, 1, "LinearObjectPool { limit: Some(1), .. }");
     let most = "LinearObjectPool { limit: Some(18446744073709551615), .. }";
     limit_is_shown(&rt, alloc, usize::MAX, most);
-    let pool: Result<Linear, _> = LinearObjectPool::new(alloc, Copied::new(7), Keep);
-    let none = "LinearObjectPool { limit: None, .. }";
-    assert_shown(&rt, alloc, &pool.expect(&rt, "a pool is made"), none);
-}
-
-/// A server that keeps its pools and shows them.
-#[derive(Debug, Drop)]
-struct Server {
-    sessions: Linear,
-    jobs: MutexObjectPool<u32, Copied<u32, AnyValue>, Keep>,
-    names: SpinLockObjectPool<u32, Copied<u32, AnyValue>, Keep>,
-}
-
-fn new_server(alloc: Global) -> Result<Server, PullError> {
-    Ok(Server {
-        sessions: LinearObjectPool::new(alloc, Copied::new(7), Keep)?,
-        jobs: MutexObjectPool::new(alloc, Copied::new(7), Keep),
-        names: SpinLockObjectPool::new(alloc, Copied::new(7), Keep)?,
-    })
-}
-
-/// A job that keeps its item and shows it.
-#[derive(Debug, Drop)]
-struct Job<'p, W: Wait + Copy> {
-    item: MutexReusable<'p, u32, Copied<u32, AnyValue>, Keep, W>,
-}
-
-#[test]
-fn a_struct_that_keeps_pools_and_items_is_shown(rt: HostRuntime) {
-    let server = new_server(rt.alloc()).expect(&rt, "nothing is refused");
-    let expected = "Server { sessions: LinearObjectPool { limit: None, .. }, \
-                    jobs: MutexObjectPool { .. }, names: SpinLockObjectPool { .. } }";
-    assert_shown(&rt, rt.alloc(), &server, expected);
-    let item = server.jobs.pull(&rt).expect(&rt, "an item is free");
-    assert_shown(&rt, rt.alloc(), &Job { item }, "Job { item: 7 }");
+    let pool = Pool::<Vec<u8>>::with_recycler(alloc).expect(&rt, "a pool is made");
+    assert_shown(&rt, alloc, &pool, "LinearObjectPool { limit: None, .. }");
 }
 
 /// A copy, by its type's own call, is shown as what was copied.
@@ -226,7 +183,110 @@ fn what_makes_and_resets_is_copied_and_shown(rt: HostRuntime) {
     is_copied(&rt, alloc, &Clear, "Clear");
     is_copied(&rt, alloc, &WithCapacity::new(alloc, 7), "WithCapacity");
     is_copied(&rt, alloc, &Recycler::new(alloc), "Recycler");
-    let page: Page<u64, AnyValue> = Page::new(alloc, &new_seven).expect(&rt, "a page is made");
-    let pass = PullPass::default();
-    assert!(rt; matches!(page.try_alloc(&pass), Ok(Allocated::Slot(_))));
+}
+
+/// Each of these values has a place of its own in a set, and words of its own.
+fn have_their_hash_and_words<T: Eq + Hash + Display + Debug + Copy + Drop>(
+    rt: &impl Abort,
+    alloc: Global,
+    values: &[T],
+    words: &str,
+) {
+    let mut set = HashSet::new(alloc);
+    let mut told = String::new(alloc);
+    for value in values {
+        set.insert(*value).expect(rt, "memory is left");
+        let copy = value.clone().expect(rt, "memory is left");
+        set.insert(copy).expect(rt, "memory is left");
+        let word = format!(in alloc; "{value:?}: {value}; ").expect(rt, "memory is left");
+        told.push_str(word.as_str()).expect(rt, "memory is left");
+    }
+    assert_equal(rt, (set.len(), told.as_str()), (values.len(), words));
+}
+
+#[test]
+fn different_causes_differ(rt: HostRuntime) {
+    let alloc = rt.alloc();
+    let causes = [PullError::Memory, PullError::Init, PullError::Limit];
+    let words = "Memory: out of memory; Init: init gave no item; Limit: the pool is at its limit; ";
+    have_their_hash_and_words(&rt, alloc, &causes, words);
+    have_their_hash_and_words(&rt, alloc, &[RunError::Memory], "Memory: out of memory; ");
+    let errors = [EngineError::Read, EngineError::Write, EngineError::Memory];
+    let words = "Read: read failed; Write: write failed; Memory: out of memory; ";
+    have_their_hash_and_words(&rt, alloc, &errors, words);
+}
+
+/// How many of these values are equal to this one.
+fn equal_to<T: PartialEq>(pairs: &[[T; 2]], one: &T) -> usize {
+    let mut equal = 0usize;
+    for pair in pairs {
+        for value in pair {
+            equal = equal.saturating_add(usize::from(value == one));
+        }
+    }
+    equal
+}
+
+/// Each of these values is equal to itself alone, and shown as no other is.
+fn differ<T: PartialEq + Debug>(rt: &impl Abort, alloc: Global, pairs: &[[T; 2]]) {
+    let mut texts = HashSet::new(alloc);
+    for pair in pairs {
+        for value in pair {
+            assert_equal(rt, equal_to(pairs, value), 1);
+            let text = format!(in alloc; "{value:?}").expect(rt, "memory is left");
+            texts.insert(text).expect(rt, "memory is left");
+        }
+    }
+    assert_equal(rt, texts.len(), pairs.len().saturating_mul(2));
+}
+
+/// What a step may answer.
+const SEEN: [[Seen; 2]; 13] = [
+    [Seen::Began(0), Seen::Began(1)],
+    [Seen::Word(0, 1), Seen::Word(0, 2)],
+    [Seen::Word(1, 1), Seen::MovedOut(0)],
+    [Seen::Found(0, 1), Seen::Found(0, 2)],
+    [Seen::Pulled(0, 1), Seen::Pulled(0, 2)],
+    [Seen::Next(0, true), Seen::Next(0, false)],
+    [Seen::Made(0), Seen::Made(1)],
+    [Seen::Linked(0), Seen::Linked(1)],
+    [Seen::Lost(0), Seen::Lost(1)],
+    [Seen::Refused(0, PullError::Init), Seen::NotEnabled],
+    [Seen::Refused(0, PullError::Limit), Seen::NoMemory],
+    [Seen::Wrote(0), Seen::MovedHome(0)],
+    [Seen::Returned(0, 1), Seen::Returned(0, 2)],
+];
+
+/// What a player may reply.
+const REPLIES: [[Reply<u32>; 2]; 6] = [
+    [Reply::Pulled(0, None), Reply::Pulled(0, Some(1))],
+    [Reply::Pulled(1, None), Reply::NoSuchHolder],
+    [Reply::Refused(PullError::Init), Reply::Written],
+    [Reply::Refused(PullError::Limit), Reply::Returned],
+    [Reply::Forgotten, Reply::Attached(0)],
+    [
+        Reply::AttachRefused(AttachError::Memory(1)),
+        Reply::AttachRefused(AttachError::NotOffered(1)),
+    ],
+];
+
+/// What a player can be asked.
+const COMMANDS: [[Command<u32>; 2]; 4] = [
+    [Command::Write(0, 1), Command::Write(0, 2)],
+    [Command::Write(1, 1), Command::Pull],
+    [Command::Return(0), Command::Forget(0)],
+    [Command::Attach(1), Command::Attach(2)],
+];
+
+#[test]
+fn different_answers_differ(rt: HostRuntime) {
+    let alloc = rt.alloc();
+    differ(&rt, alloc, &SEEN);
+    differ(&rt, alloc, &REPLIES);
+    differ(&rt, alloc, &COMMANDS);
+    let (one, two) = (Kind::Bounded(1), Kind::Bounded(2));
+    differ(&rt, alloc, &[[one, two]]);
+    let rest = [[Kind::Linear, Kind::Stack], [Kind::None, one]];
+    differ(&rt, alloc, &rest);
+    differ(&rt, alloc, &[[Reset::Zero, Reset::Keep]]);
 }
