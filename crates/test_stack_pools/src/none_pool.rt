@@ -1,20 +1,31 @@
 //! Worked cases of the pool that keeps nothing.
 use none_pools::{NoneObjectPool, NoneReusable};
 use pool_parts::PullError;
+use std::process::Abort;
 use std::sync::Arc;
 use test_values::tally::Tally;
 
+/// Each pull shows a 0, which is written and dropped.
+fn writes(rt: &(impl Abort + AllocGlobal), numbers: &[u32]) {
+    let pool = NoneObjectPool::new(|| Some(0u32));
+    for number in numbers {
+        let mut item = pool.pull().expect(rt, "an item is made");
+        let made = *item;
+        *item += *number;
+        assert_eq!(*rt; (made, *item), (0, *number));
+    }
+    let pool = Arc::new(rt.alloc(), pool).expect(rt, "memory is left");
+    assert_eq!(*rt; pool.pull_owned().map(|item| *item), Ok(0));
+}
+
 #[test]
 fn a_written_value_is_gone(rt: HostRuntime) {
-    let pool = NoneObjectPool::new(|| Some(0u32));
-    for written in [5, 1, 1] {
-        let mut item = pool.pull().expect(&rt, "an item is made");
-        let made = *item;
-        *item += written;
-        assert_eq!(rt; (made, *item), (0, written));
-    }
-    let pool = Arc::new(rt.alloc(), pool).expect(&rt, "memory is left");
-    assert_eq!(rt; pool.pull_owned().map(|item| *item), Ok(0));
+    writes(&rt, &[5]);
+}
+
+#[test]
+fn what_was_added_is_gone_twice(rt: HostRuntime) {
+    writes(&rt, &[1, 1]);
 }
 
 #[test]

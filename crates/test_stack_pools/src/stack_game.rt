@@ -4,10 +4,12 @@ use crate::values::{Book, Part, Value};
 use pool_parts::PullError;
 use pool_parts::closures::{Init, Reset};
 use rows::dice::Dice;
+use rows::game::{Trial, shrunk};
 use rows::refusals::Refusals;
 use rows::row::Command;
 use rows::said::Said;
 use std::alloc::{AllocError, Global};
+use std::marker::PhantomData;
 use std::process::Abort;
 use std::sync::{Arc, Wait};
 
@@ -226,32 +228,81 @@ impl<F: Kind, W: Wait + Copy> StackGame<'_, F, W> {
     }
 }
 
-/// Plays a game on a pool, and lets all items go. Returns the book of the model, which then ends.
-fn plays_on<F: Kind, W: Abort + AllocGlobal + Wait + Copy>(
+/// Begins a game on a pool.
+fn begun<'p, F: Kind, W: Wait + Copy>(
     rt: W,
+    alloc: Global,
+    (opened, refusals): (&'p Opened<F>, &'p Refusals),
+    size: usize,
+) -> Result<StackGame<'p, F, W>, PullError> {
+    Ok(StackGame {
+        player: StackPlayer::new(rt, alloc, opened, refusals, false),
+        model: Model::new(alloc)?,
+        size,
+    })
+}
+
+/// Plays lists on new pools of a kind.
+struct StackTrial<F, W> {
+    rt: W,
+    alloc: Global,
+    list: PhantomData<F>,
+}
+
+impl<F: Kind, W: Wait + Copy> StackTrial<F, W> {
+    /// Whether a list has an answer that isn't the model's.
+    fn is_unfair(&self, list: &[Command]) -> Result<bool, PullError> {
+        let (opened, refusals) = (Opened::<F>::new(self.alloc, None)?, Refusals::new());
+        let mut game = begun(self.rt, self.alloc, (&opened, &refusals), 0)?;
+        Ok(list.iter().any(|command| game.unfair(*command).is_some()))
+    }
+}
+
+impl<F: Kind, W: Wait + Copy> Trial for StackTrial<F, W> {
+    fn fails(&self, list: &[Command]) -> bool {
+        matches!(self.is_unfair(list), Ok(true))
+    }
+}
+
+/// Plays a game on a pool, and lets all items go. Returns the book of the model, which then ends,
+/// or the list that failed.
+fn played_on<F: Kind, W: Abort + Wait + Copy>(
+    rt: W,
+    alloc: Global,
     opened: &Opened<F>,
     (seed, size): (u64, usize),
-) -> Arc<Book> {
+) -> Result<Arc<Book>, Vec<Command>> {
     let refusals = Refusals::new();
-    let mut game = StackGame {
-        player: StackPlayer::new(rt, rt.alloc(), opened, &refusals, false),
-        model: Model::new(rt.alloc()).expect(&rt, "memory is left"),
-        size,
-    };
+    let mut game = begun(rt, alloc, (opened, &refusals), size).expect(&rt, "memory is left");
     let mut dice = Dice::new(seed);
-    for step in 0..size.saturating_mul(2).saturating_add(300) {
+    let mut list = Vec::new(alloc);
+    for _ in 0..size.saturating_mul(2).saturating_add(300) {
         let command = game.draw(&mut dice);
-        let place = (size, seed, step, command);
-        assert_eq!(rt; (place, game.unfair(command)), (place, None));
+        list.push(command).expect(&rt, "memory is left");
+        if game.unfair(command).is_some() {
+            return Err(list);
+        }
     }
     let StackGame { model, .. } = game;
-    model.end().expect(&rt, "memory is left")
+    Ok(model.end().expect(&rt, "memory is left"))
 }
 
 /// Plays a game on a new pool, which then ends: what is left is dropped.
 fn plays<F: Kind, W: Abort + AllocGlobal + Wait + Copy>(rt: W, seed: u64, size: usize) {
-    let opened = Opened::<F>::new(rt.alloc(), None).expect(&rt, "memory is left");
-    let model = plays_on(rt, &opened, (seed, size));
+    let alloc = rt.alloc();
+    let opened = Opened::<F>::new(alloc, None).expect(&rt, "memory is left");
+    let model = match played_on(rt, alloc, &opened, (seed, size)) {
+        Ok(model) => model,
+        Err(list) => {
+            let trial = StackTrial::<F, W> {
+                rt,
+                alloc,
+                list: PhantomData,
+            };
+            let list = shrunk(alloc, list, &trial).expect(&rt, "memory is left");
+            panic!(rt; "size {size}, seed {seed}: {list:?}");
+        }
+    };
     let Opened { pool, book } = opened;
     drop(pool);
     assert_eq!(rt;

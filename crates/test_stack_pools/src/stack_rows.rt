@@ -53,15 +53,43 @@ fn the_value_that_came_back_last_is_pulled_first(rt: HostRuntime) {
 }
 
 #[test]
-fn a_value_comes_again_as_reset_leaves_it(rt: HostRuntime) {
+fn an_attached_nine_comes_again_as_the_zero_that_reset_left(rt: HostRuntime) {
     plays(
         rt,
-        "attach 9; return 0; pull; detach 1; pull; return 2; pull; write 3 5; return 3; pull; \
-         detach 4; calls; zero 1; attach 9; read 5; return 5; pull; write 6 1; return 6; pull; \
-         write 7 1; return 7; pull; calls",
-        "attached 0 9; done; pulled 0 9; detached 0 9; pulled 1 0; done; pulled 1 0; reads 1 5; \
-         done; pulled 1 5; detached 1 5; calls 1; done; attached 2 9; reads 2 9; done; pulled 2 0; \
-         reads 2 1; done; pulled 2 0; reads 2 1; done; pulled 2 0; calls 1",
+        "zero 1; attach 9; read 0; return 0; pull; calls",
+        "done; attached 0 9; reads 0 9; done; pulled 0 0; calls 0",
+    );
+}
+
+#[test]
+fn an_attached_nine_comes_again_where_reset_keeps_it(rt: HostRuntime) {
+    plays(
+        rt,
+        "attach 9; return 0; pull; calls",
+        "attached 0 9; done; pulled 0 9; calls 0",
+    );
+}
+
+#[test]
+fn two_held_items_take_two_calls_of_init(rt: HostRuntime) {
+    plays(rt, "pull; pull; calls", "pulled 0 0; pulled 1 0; calls 2");
+}
+
+#[test]
+fn a_written_five_comes_again_where_reset_keeps_it(rt: HostRuntime) {
+    plays(
+        rt,
+        "pull; return 0; pull; write 1 5; return 1; pull; calls",
+        "pulled 0 0; done; pulled 0 0; reads 0 5; done; pulled 0 5; calls 1",
+    );
+}
+
+#[test]
+fn an_item_is_reset_to_zero_twice(rt: HostRuntime) {
+    plays(
+        rt,
+        "zero 1; pull; write 0 1; return 0; pull; write 1 1; return 1; pull; calls",
+        "done; pulled 0 0; reads 0 1; done; pulled 0 0; reads 0 1; done; pulled 0 0; calls 1",
     );
 }
 
@@ -265,7 +293,10 @@ fn keeps_attached<F: Kind, W: Abort + AllocGlobal + Wait + Copy>(rt: W) {
         assert!(rt; player.play(attach).number(1).is_some());
     }
     drop(player);
-    assert_eq!(rt; (opened.pool.kept(&rt), opened.book.tally.made()), (70_000, 70_000));
+    assert_eq!(rt;
+        (opened.pool.kept(&rt), opened.book.tally.made()),
+        (70_000, 70_000)
+    );
 }
 
 #[test]

@@ -39,25 +39,27 @@ trait Shared: Kind {
     ) -> Option<JoinHandle<Option<usize>>>;
 }
 
-/// It is sent an owner of the pool's own type.
-macro_rules! shared {
-    ($list:ty) => {
-        impl Shared for $list {
-            fn use_elsewhere<W: Wait + Threads + Copy + Send + 'static>(
-                rt: W,
-                pool: &Arc<Pool<Self>>,
-                pulls: u32,
-            ) -> Option<JoinHandle<Option<usize>>> {
-                let there = Arc::try_clone(pool).ok()?;
-                thread::spawn(&rt, move || use_up(&rt, &*there, pulls)).ok()
-            }
-        }
-    };
+impl Shared for UnderMutex {
+    fn use_elsewhere<W: Wait + Threads + Copy + Send + 'static>(
+        rt: W,
+        pool: &Arc<Pool<Self>>,
+        pulls: u32,
+    ) -> Option<JoinHandle<Option<usize>>> {
+        let there = Arc::try_clone(pool).ok()?;
+        thread::spawn(&rt, move || use_up(&rt, &*there, pulls)).ok()
+    }
 }
 
-shared!(UnderMutex);
-
-shared!(UnderSpinLock);
+impl Shared for UnderSpinLock {
+    fn use_elsewhere<W: Wait + Threads + Copy + Send + 'static>(
+        rt: W,
+        pool: &Arc<Pool<Self>>,
+        pulls: u32,
+    ) -> Option<JoinHandle<Option<usize>>> {
+        let there = Arc::try_clone(pool).ok()?;
+        thread::spawn(&rt, move || use_up(&rt, &*there, pulls)).ok()
+    }
+}
 
 /// What is shown to a thread in whose pull or return another one pulls and returns, and to that
 /// one. Then what two pulls show that are held.
