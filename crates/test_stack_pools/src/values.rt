@@ -58,17 +58,11 @@ impl Book {
         }
     }
 
-    /// Returns how often `init` was called, how many values were made, reset and dropped, and the
+    /// Returns how often `init` was called, how many values were dropped, made and reset, and the
     /// sum of the serial numbers of those that were dropped.
-    pub fn counts(&self) -> [usize; 5] {
+    pub fn counts(&self) -> ((usize, usize), usize, usize, usize) {
         let (tally, dropped) = (&self.tally, self.dropped.load(SeqCst));
-        [
-            tally.calls(),
-            tally.made(),
-            tally.resets(),
-            tally.drops(),
-            dropped,
-        ]
+        (tally.now(), tally.made(), tally.resets(), dropped)
     }
 
     /// Says how many values were made, reset and dropped, or how often `init` was called, or
