@@ -133,9 +133,6 @@ pub struct StackPlayer<'p, F: Kind, W: Wait + Copy> {
     held: Vec<Option<Item<'p, F, W>>>,
 }
 
-/// How many items are held without a further request for memory.
-const ROOM: usize = 64;
-
 impl<'p, F: Kind, W: Wait + Copy> StackPlayer<'p, F, W> {
     /// Creates a player that holds nothing. If it is owned, `pull` and `attach` are those of owned
     /// items.
@@ -155,9 +152,9 @@ impl<'p, F: Kind, W: Wait + Copy> StackPlayer<'p, F, W> {
         }
     }
 
-    /// Takes room for what is held by rows without further requests for memory. Whether it was met.
+    /// Takes room for 64 items, which asks for no memory then. Whether it was met.
     pub fn has_room(&mut self) -> bool {
-        let is_met = self.held.reserve(ROOM).is_ok();
+        let is_met = self.held.reserve(64).is_ok();
         if !is_met {
             self.refusals.note();
         }

@@ -233,11 +233,13 @@ fn a_pool_ends_behind_an_owned_attach_where_memory_was_refused(rt: HostRuntime) 
 #[test]
 fn a_lock_gives_its_value_back_where_memory_was_refused(rt: HostRuntime) {
     let refusals = Refusals::new();
-    let mut lock = SpinLock::new(rt.alloc(), 7u32);
-    if let Err(back) = lock {
-        refusals.note();
-        lock = SpinLock::new(rt.alloc(), back);
-    }
+    let lock = match SpinLock::new(rt.alloc(), 7u32) {
+        Err(back) => {
+            refusals.note();
+            SpinLock::new(rt.alloc(), back)
+        }
+        answer => answer,
+    };
     let lock = lock.expect(&rt, "one request alone is refused");
     assert_eq!(rt; *lock.lock(&rt), 7);
     drop(asked_again!(&rt, refusals, Room::<u32>::new(rt.alloc())));
