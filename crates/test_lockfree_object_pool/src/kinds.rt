@@ -5,7 +5,6 @@ use lockfree_object_pool::clean::{AnyValue, Empty};
 use lockfree_object_pool::closures::{Clear, Init, Reset, WithCapacity};
 use lockfree_object_pool::{LazyObjectPool, LazyOwnedReusable, LazyReusable, PullError};
 use object_pool_cores::buffers::{Buffer, BufferPool};
-use object_pool_cores::interleave::{Event, Prepared, Seen, World};
 use object_pool_cores::sequential::{
     Command, LinearCore, Player, Reply, RunError, SequentialPool, StackCore,
 };
@@ -66,12 +65,12 @@ impl Pulls for Arc<Lazy> {
 #[derive(Drop)]
 struct MakesBuffers {
     alloc: Global,
-    values: Makes,
+    init: Makes,
 }
 
 impl Init<Vec<u8>, Empty> for MakesBuffers {
     fn make(&self) -> Option<Vec<u8>> {
-        let _value = self.values.make()?;
+        let _value = self.init.make()?;
         Some(Vec::new(self.alloc))
     }
 }
@@ -89,27 +88,12 @@ impl Reset<Vec<u8>, Empty> for ClearsBuffers {
     }
 }
 
-type Buffers = BufferPool<MakesBuffers, ClearsBuffers>;
-
 impl<'p, I: Init<Vec<u8>, Empty>, R: Reset<Vec<u8>, Empty>> Pulls for &'p BufferPool<I, R> {
     type Item = Buffer<'p, I, R>;
 
     fn pull_one(&self) -> Result<Self::Item, PullError> {
         self.pull()
     }
-}
-
-/// Opens a pool of as many pages as so many buffers need.
-fn buffers(
-    alloc: Global,
-    values: Makes,
-    setting: &Arc<Setting>,
-    items: usize,
-) -> Result<Buffers, PullError> {
-    let init = MakesBuffers { alloc, values };
-    let setting = Arc::try_clone(setting)?;
-    let pages = items.div_ceil(32).max(1);
-    BufferPool::new(alloc, init, ClearsBuffers { setting }, pages)
 }
 
 #[test]
@@ -158,60 +142,9 @@ fn play<P: SequentialPool<Tallied> + Drop>(
     Ok(())
 }
 
-pub type Tracked = World<Tallied, Resets>;
-
-/// The values of a page of a world.
-pub fn page(alloc: Global, init: &Makes) -> Result<Prepared<Tallied>, PullError> {
-    Prepared::make(alloc, &|| init.make())
-}
-
-/// A step that is enabled. It is refused where there is no memory.
-fn done(world: &mut Tracked, event: Event<Tallied>) -> Result<Seen, PullError> {
-    match world.step(event) {
-        Seen::NotEnabled => Err(PullError::Limit),
-        Seen::NoMemory => Err(PullError::Memory),
-        Seen::Refused(_, refusal) => Err(refusal),
-        seen => Ok(seen),
-    }
-}
-
-/// An agent begins, and pulls an item of the first page that has one. Behind a full last page it
-/// links one.
-fn begin(world: &mut Tracked, alloc: Global, init: &Makes, agent: usize) -> Result<(), PullError> {
-    done(world, Event::Begin)?;
-    for _page in 0..100 {
-        done(world, Event::ReadMask(agent))?;
-        if let Ok(Seen::Pulled(..)) = done(world, Event::ClearBit(agent)) {
-            done(world, Event::MoveOut(agent))?;
-            return Ok(());
-        }
-        if let Seen::Next(_, false) = done(world, Event::ReadNext(agent))? {
-            done(world, Event::MakePage(agent, page(alloc, init)))?;
-            done(world, Event::ExchangeNext(agent))?;
-        }
-    }
-    Err(PullError::Limit)
-}
-
-/// Agents hold so many items and return them, and others do the same.
-fn use_world(alloc: Global, init: &Makes, reset: Resets, items: usize) -> Result<(), PullError> {
-    let mut world = World::new(alloc, page(alloc, init)?, reset)?;
-    for first in [0, items] {
-        let end = first.saturating_add(items);
-        for agent in first..end {
-            begin(&mut world, alloc, init, agent)?;
-        }
-        for agent in first..end {
-            done(&mut world, Event::MoveHome(agent))?;
-            done(&mut world, Event::OrMask(agent))?;
-        }
-    }
-    Ok(())
-}
-
 /// What is opened, used and let go: of two lazy pools one that ends with the last of its items, a
-/// pool of buffers, players of two cores, and a world.
-const KINDS: [&str; 6] = ["lazy", "owned", "buffers", "linear", "stack", "world"];
+/// pool of buffers, and players of two cores.
+const KINDS: [&str; 5] = ["lazy", "owned", "buffers", "linear", "stack"];
 
 /// Opens one, holds so many items together, twice, and lets all go.
 fn use_up(
@@ -227,10 +160,15 @@ fn use_up(
             let pool = Lazy::new(alloc, init, reset, items.max(1))?;
             hold_twice(alloc, Arc::new(alloc, pool)?, items)
         }
-        "buffers" => hold_twice(alloc, &buffers(alloc, init, setting, items)?, items),
+        "buffers" => {
+            let init = MakesBuffers { alloc, init };
+            let setting = Arc::try_clone(setting)?;
+            let pages = items.div_ceil(32).max(1);
+            let pool = BufferPool::new(alloc, init, ClearsBuffers { setting }, pages)?;
+            hold_twice(alloc, &pool, items)
+        }
         "linear" => play(alloc, Linear::new(alloc, init, reset)?, items),
-        "stack" => play(alloc, Stack::new(alloc, init, reset), items),
-        _ => use_world(alloc, &init, reset, items),
+        _ => play(alloc, Stack::new(alloc, init, reset), items),
     }
 }
 
@@ -282,29 +220,24 @@ fn what_each_owns_is_dropped(rt: HostRuntime) {
     }
 }
 
-/// The greatest number of items that a test has time to hold. `test_sizes`, a built program, has
-/// pools and cores of 300,000 items and more.
-const MOST_HELD: usize = 2_049;
-
 #[test]
 fn items_of_each_size_come_back(rt: HostRuntime) {
     for kind in KINDS {
         for items in SIZES {
-            if items <= MOST_HELD {
+            // `test_sizes`, a built program, has pools and cores of 300,000 items and more.
+            if items <= 2_049 {
                 ends_after_use(&rt, rt.alloc(), kind, items);
             }
         }
     }
 }
 
-/// How many items are held where memory is refused: of pages the second word is begun.
-const FEW_ITEMS: usize = 34;
-
-/// Whichever request for memory is refused, all is dropped, and there is no other cause.
+/// Whichever request for memory is refused, all is dropped, and there is no other cause. Of 34
+/// items the second page or word is begun.
 #[test]
 fn what_each_owns_is_dropped_where_memory_was_refused(rt: HostRuntime) {
     for kind in KINDS {
-        if let Ok((used, _, left)) = end_of(kind, rt.alloc(), NEVER, FEW_ITEMS) {
+        if let Ok((used, _, left)) = end_of(kind, rt.alloc(), NEVER, 34) {
             assert!(rt; matches!(used, Ok(()) | Err(PullError::Memory)));
             assert_equal(&rt, left, 0);
         }

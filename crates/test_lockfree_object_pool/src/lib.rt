@@ -1,5 +1,5 @@
-//! Tests of the facade: what goes through kinds of pool, core, player, world and buffer pool in one
-//! way, and what is told of the linear pool, of the fixed pool, and of what makes and resets.
+//! Tests of the facade: what goes through kinds of pool, core, player and buffer pool in one way, and
+//! what is told of the linear pool, of the fixed pool, and of what makes and resets.
 //!
 //! `kinds`: what each owns is dropped once, whichever call of `init` refuses and whichever request
 //! for memory is refused. `no_memory`: calls that ask for none. `texts`: how each type is shown,

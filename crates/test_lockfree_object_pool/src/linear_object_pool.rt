@@ -25,10 +25,9 @@ use std::process::Abort;
 use std::sync::Arc;
 use test_values::zeros::{CountedZeros, Zero, new_calls};
 
-/// What makes zeros, and what resets to 0.
+/// What makes zeros, and what resets to 0, and a pool by these.
 type Zeros = Copied<u32, Zero>;
 
-/// A pool that resets to 0.
 type ClearedPool = LinearObjectPool<u32, Zeros, Zeros, Zero>;
 
 /// What is read is what was written last, and the item keeps its place.
@@ -141,10 +140,9 @@ fn a_value_is_an_answer_or_what_a_return_left(rt: HostRuntime) {
     }
 }
 
-/// A pool of numbers that keeps what was written last.
+/// A pool of numbers that keeps what was written last, and its items.
 type NumberPool = LinearObjectPool<u32, Copied<u32, AnyValue>, Keep>;
 
-/// A pulled number.
 type NumberItem<'p> = LinearReusable<'p, u32, Copied<u32, AnyValue>, Keep>;
 
 /// Writes a number to item 0 of the first page and returns it: this return is the last operation

@@ -75,7 +75,6 @@ fn bare_closures(rt: HostRuntime) {
     assert_equal(&rt, (left, calls.get()), (9, 3));
 }
 
-/// A part of a hundred.
 #[derive(Clone, Copy)]
 struct Percent {
     value: u8,
@@ -193,7 +192,6 @@ fn vectors_and_texts_come_empty_with_their_room(rt: HostRuntime) {
     }
 }
 
-/// A value that is never made.
 #[derive(Drop)]
 struct Never;
 

@@ -4,15 +4,15 @@
 //! in turn, and fails where one comes after that line. Before it, a request that is refused ends
 //! the test. `ci/no_memory_calls` finds a call of `ci/calls_without_memory` that no test makes.
 use crate::assert_equal::assert_equal;
-use crate::kinds::{Lazy, Linear, Stack, Tracked, page};
+use crate::kinds::{Lazy, Linear, Stack};
 use lockfree_object_pool::clean::AnyValue;
-use lockfree_object_pool::closures::{Clear, WithCapacity};
+use lockfree_object_pool::closures::{Clear, Init, WithCapacity};
 use lockfree_object_pool::linear_page::Chain;
 use lockfree_object_pool::page::{
     Allocated, Page, PageId, PullPass, has_bit, take_least, with_bit, without_bit,
 };
 use object_pool_cores::buffers::{self, BufferPool};
-use object_pool_cores::interleave::{Event, Seen, World};
+use object_pool_cores::interleave::{Event, Prepared, Seen, World};
 use object_pool_cores::sequential::{Command, CorePage, NoneCore, Player, SequentialPool};
 use rows::setting::{Makes, Resets, Setting, function_objects};
 use std::alloc::Global;
@@ -209,9 +209,10 @@ fn calls_of_a_player_ask_for_no_memory(rt: HostRuntime) {
 }
 
 /// A world with one agent, which has begun.
-fn world_of_one(alloc: Global, setting: &Arc<Setting>) -> Option<Tracked> {
+fn world_of_one(alloc: Global, setting: &Arc<Setting>) -> Option<World<Tallied, Resets>> {
     let (init, reset) = function_objects(setting).ok()?;
-    let mut world = World::new(alloc, page(alloc, &init).ok()?, reset).ok()?;
+    let first = Prepared::make(alloc, &|| init.make()).ok()?;
+    let mut world = World::new(alloc, first, reset).ok()?;
     matches!(world.step(Event::Begin), Seen::Began(_)).then_some(world)
 }
 

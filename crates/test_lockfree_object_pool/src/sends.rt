@@ -5,15 +5,13 @@ use lockfree_object_pool::clean::{AnyValue, Clean};
 use lockfree_object_pool::closures::{Copied, Init, InitBy, Kept, Makes, Reset, ResetBy, Resets};
 use lockfree_object_pool::{
     FixedObjectPool, FixedOwnedReusable, FixedReusable, LinearObjectPool, LinearOwnedReusable,
-    LinearReusable, MutexObjectPool, SpinLockObjectPool,
+    LinearReusable,
 };
 use std::ops::Deref;
 use std::thread::{self, Threads};
 
-/// Takes what may be sent to another thread.
 fn is_sent<X: Send>(_value: &X) {}
 
-/// Takes what threads may share.
 fn is_shared<X: Sync>(_value: &X) {}
 
 fn pools_sent<
@@ -90,39 +88,24 @@ fn two_threads_read_one_item(rt: HostRuntime) {
     assert_equal(&rt, *pool.pull().expect(&rt, "an item is free"), 0);
 }
 
-/// Pools by closures, of values that may be sent and not shared, and an item: a linear pool by a
-/// closure that resets and one by none, a fixed pool, and those behind a lock.
-fn pools_of_closures<
+/// What makes and resets by closures, and a reset that changes nothing, may be sent and shared where
+/// their values may only be sent. So may each kind of pool by them then.
+fn parts_sent_and_shared<
     T: Send + Drop,
-    I: InitBy<T> + Send + Sync,
-    J: InitBy<T>,
-    R: ResetBy<T> + Send + Sync,
+    I: InitBy<T> + Send,
+    J: InitBy<T> + Sync,
+    R: ResetBy<T> + Send,
+    S: ResetBy<T> + Sync,
+    K: Clean<T> + Send,
 >(
-    linear: &LinearObjectPool<T, Makes<T, I, AnyValue>, Resets<T, R, AnyValue>>,
-    item: &LinearReusable<'_, T, Makes<T, I, AnyValue>, Resets<T, R, AnyValue>>,
-    kept: &LinearObjectPool<T, Makes<T, I, AnyValue>, Kept<T, AnyValue>>,
-    fixed: &FixedObjectPool<T, Makes<T, J, AnyValue>, Resets<T, R, AnyValue>>,
-    mutex: &MutexObjectPool<T, Makes<T, I, AnyValue>, Resets<T, R, AnyValue>>,
-    spin_lock: &SpinLockObjectPool<T, Makes<T, I, AnyValue>, Resets<T, R, AnyValue>>,
-) {
-    pools_sent(linear, fixed);
-    is_shared(linear);
-    is_shared(fixed);
-    is_sent(item);
-    is_sent(kept);
-    is_shared(kept);
-    is_sent(mutex);
-    is_shared(mutex);
-    is_sent(spin_lock);
-    is_shared(spin_lock);
-}
-
-/// A maker by a closure, and a reset that changes nothing, may be shared where their values may only
-/// be sent.
-fn parts_shared<T: Send + Drop, F: InitBy<T> + Sync, K: Clean<T> + Send>(
-    maker: &Makes<T, F, K>,
+    makes: (&Makes<T, I, K>, &Makes<T, J, K>),
+    resets: (&Resets<T, R, K>, &Resets<T, S, K>),
     kept: &Kept<T, K>,
 ) {
-    is_shared(maker);
+    is_sent(makes.0);
+    is_shared(makes.1);
+    is_sent(resets.0);
+    is_shared(resets.1);
+    is_sent(kept);
     is_shared(kept);
 }

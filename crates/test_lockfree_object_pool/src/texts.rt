@@ -1,7 +1,5 @@
 //! How types are shown, compared and hashed: pools, items, guards, what makes and resets, and the
 //! causes and answers, of which different ones differ.
-ghost use Rattle.std.specs.Prelude.{◌≤◌};
-
 use crate::assert_equal::{assert_equal, assert_shown};
 use lockfree_object_pool::clean::{AnyValue, Empty};
 use lockfree_object_pool::closures::{Clear, Keep, WithCapacity};
@@ -44,7 +42,6 @@ fn item_is_shown<T: DerefMut<Target = Vec<u8>> + Debug + Drop>(
     shows(rt, alloc, &item, "[5]", "[\n    5,\n]");
 }
 
-/// A linear pool of two pages is shown with its limit.
 fn linear_is_shown(rt: &impl Abort, alloc: Global) {
     let pool = Pool::<Vec<u8>>::with_recycler_within(alloc, 2).expect(rt, "a pool is made");
     let pool = Arc::new(alloc, pool).expect(rt, "memory is left");
@@ -55,7 +52,6 @@ fn linear_is_shown(rt: &impl Abort, alloc: Global) {
     shows(rt, alloc, &*pool, plain, pretty);
 }
 
-/// A fixed pool is shown with its 33 items.
 fn fixed_is_shown(rt: &impl Abort, alloc: Global) {
     let pool = FixedPool::<Vec<u8>>::with_recycler(alloc, 33).expect(rt, "a pool is made");
     let pool = Arc::new(alloc, pool).expect(rt, "memory is left");
@@ -72,7 +68,6 @@ fn each_pool_that_never_waits_is_shown(rt: HostRuntime) {
     fixed_is_shown(&rt, rt.alloc());
 }
 
-/// A lazy pool of three items is shown with their number, and with how many it made.
 fn lazy_is_shown(rt: &impl Abort, alloc: Global) {
     let pool = LazyPool::<Vec<u8>>::with_recycler(alloc, 3).expect(rt, "a pool is made");
     let pool = Arc::new(alloc, pool).expect(rt, "memory is left");
@@ -83,7 +78,6 @@ fn lazy_is_shown(rt: &impl Abort, alloc: Global) {
     shows(rt, alloc, &*pool, plain, pretty);
 }
 
-/// A buffer pool is shown with its linear pool, and its buffers with their bytes.
 fn buffer_pool_is_shown(rt: &impl Abort, alloc: Global) {
     let init = WithCapacity::new(alloc, 0);
     let pool = BufferPool::new(alloc, init, Clear, 1).expect(rt, "a pool is made");
@@ -107,10 +101,9 @@ fn each_other_pool_is_shown(rt: HostRuntime) {
     shows(&rt, alloc, &pool, text, text);
 }
 
-/// A mutex pool or a spin lock pool, by its free list.
+/// A mutex pool or a spin lock pool, by its free list, and what it keeps.
 type Stack<F> = StackObjectPool<Vec<u8>, Recycler, Recycler, Recycler, F>;
 
-/// What such a pool keeps.
 type Recycled = MadeOrReset<Recycler, Recycler, Recycler>;
 
 /// As `item_is_shown`, of an item of a stack pool. Where its proof names no pool, it is short.
@@ -149,20 +142,13 @@ fn each_pool_that_waits_is_shown(rt: HostRuntime) {
     item_is_shown(&rt, alloc, Ok(lock.lock(&rt)));
 }
 
-/// The limit of a pool is shown by this text.
-fn limit_is_shown(rt: &impl Abort, alloc: Global, pages: usize, text: &str)
-    requires { 1 ≤ pages }
-{
-    let pool = Pool::<Vec<u8>>::with_recycler_within(alloc, pages).expect(rt, "a pool is made");
-    assert_shown(rt, alloc, &pool, text);
-}
-
+/// As the limits of one page and of two above.
 #[test]
 fn each_limit_is_shown(rt: HostRuntime) {
     let alloc = rt.alloc();
-    limit_is_shown(&rt, alloc, 1, "LinearObjectPool { limit: Some(1), .. }");
-    let most = "LinearObjectPool { limit: Some(18446744073709551615), .. }";
-    limit_is_shown(&rt, alloc, usize::MAX, most);
+    let most = Pool::<Vec<u8>>::with_recycler_within(alloc, usize::MAX);
+    let text = "LinearObjectPool { limit: Some(18446744073709551615), .. }";
+    assert_shown(&rt, alloc, &most.expect(&rt, "a pool is made"), text);
     let pool = Pool::<Vec<u8>>::with_recycler(alloc).expect(&rt, "a pool is made");
     assert_shown(&rt, alloc, &pool, "LinearObjectPool { limit: None, .. }");
 }
@@ -240,7 +226,6 @@ fn differ<T: PartialEq + Debug>(rt: &impl Abort, alloc: Global, pairs: &[[T; 2]]
     assert_equal(rt, texts.len(), pairs.len().saturating_mul(2));
 }
 
-/// What a step may answer.
 const SEEN: [[Seen; 2]; 13] = [
     [Seen::Began(0), Seen::Began(1)],
     [Seen::Word(0, 1), Seen::Word(0, 2)],
@@ -257,7 +242,6 @@ const SEEN: [[Seen; 2]; 13] = [
     [Seen::Returned(0, 1), Seen::Returned(0, 2)],
 ];
 
-/// What a player may reply.
 const REPLIES: [[Reply<u32>; 2]; 6] = [
     [Reply::Pulled(0, None), Reply::Pulled(0, Some(1))],
     [Reply::Pulled(1, None), Reply::NoSuchHolder],
@@ -270,7 +254,6 @@ const REPLIES: [[Reply<u32>; 2]; 6] = [
     ],
 ];
 
-/// What a player can be asked.
 const COMMANDS: [[Command<u32>; 2]; 4] = [
     [Command::Write(0, 1), Command::Write(0, 2)],
     [Command::Write(1, 1), Command::Pull],

@@ -50,10 +50,9 @@ type MutexPool = MutexObjectPool<u32, CountedZeros, ToZero>;
 
 type SpinLockPool = SpinLockObjectPool<u32, CountedZeros, ToZero>;
 
-/// A mutex pool or a spin lock pool, by its free list.
+/// A mutex pool or a spin lock pool, by its free list, and what it keeps.
 type Stack<F> = StackObjectPool<u32, CountedZeros, ToZero, AnyValue, F>;
 
-/// What a stack pool of zeros keeps.
 type ZeroValues = MadeOrReset<CountedZeros, ToZero, AnyValue>;
 
 /// What makes zeros, and the count of its calls.
@@ -86,7 +85,6 @@ fn spin_lock(rt: &impl Abort, alloc: Global) -> Counted<SpinLockPool> {
 
 /// A pool of numbers that threads share, and whose owned items are sent.
 trait Shared<A, W>: Send + Sync + Drop {
-    /// Pulls an owned item.
     fn pull_to_send(owner: &Arc<Self>, rt: &W) -> Result<A, PullError>;
 
     /// Writes a number to an item of the pool, and sends the number that it reads.
@@ -103,7 +101,6 @@ impl<W: Wait> Shared<OwnedZero, W> for Linear {
     }
 }
 
-/// An owned item of a stack pool.
 type StackZero<F, W> = StackReusable<u32, Arc<Stack<F>>, W>;
 
 impl<F: FreeList<u32, ZeroValues> + Send + Sync, W: Wait + Copy> Shared<StackZero<F, W>, W>
