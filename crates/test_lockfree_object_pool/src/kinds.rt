@@ -23,7 +23,6 @@ pub trait Pulls: Drop {
     fn pull_one(&self) -> Result<Self::Item, PullError>;
 }
 
-/// Pulls so many items, and holds them together.
 pub fn held<P: Pulls>(alloc: Global, pool: &P, count: usize) -> Result<Vec<P::Item>, PullError> {
     let mut held = Vec::with_capacity(alloc, count)?;
     for _ in 0..count {
@@ -111,7 +110,6 @@ fn a_pull_behind_32_held_buffers_is_refused_by_the_limit(rt: HostRuntime) {
     drop(buffers);
 }
 
-/// What a player did, or why not.
 fn played(replied: Result<Reply<Tallied>, RunError>) -> Result<(), PullError> {
     match replied {
         Ok(Reply::Refused(refusal)) => Err(refusal),

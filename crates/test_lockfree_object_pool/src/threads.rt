@@ -55,7 +55,6 @@ type Stack<F> = StackObjectPool<u32, CountedZeros, ToZero, AnyValue, F>;
 
 type ZeroValues = MadeOrReset<CountedZeros, ToZero, AnyValue>;
 
-/// What makes zeros, and the count of its calls.
 fn counted_zeros(rt: &impl Abort, alloc: Global) -> (CountedZeros, Arc<AtomicUsize>) {
     let count = new_calls(alloc).expect(rt, "memory is left");
     let calls = Arc::try_clone(&count).expect(rt, "memory is left");
@@ -114,7 +113,6 @@ impl<F: FreeList<u32, ZeroValues> + Send + Sync, W: Wait + Copy> Shared<StackZer
     }
 }
 
-/// Writes a number to an item that was pulled, and sends the number that it reads.
 fn read_and_sent<A: DerefMut<Target = u32> + Drop, W: Wait>(
     rt: &W,
     pulled: Result<A, PullError>,
@@ -147,7 +145,6 @@ fn send_five<
     assert!(rt; dropper.expect(rt, "a thread is made").join(rt));
 }
 
-/// Whether five items were received. They are dropped.
 fn drop_five<T: Drop, W: Wait>(rt: &W, from: &Receiver<T>) -> bool {
     for _ in 0..5 {
         if receive(rt, from).is_none() {
@@ -249,7 +246,6 @@ fn plays(setting: &Setting, word: &'static str) -> bool {
     setting.play(Command { word, numbers }).words() != "nobody came"
 }
 
-/// Whether an item comes within five seconds.
 fn comes_in_time<R: Wait + Clock>(rt: &R, pool: &Slow) -> Option<bool> {
     let most = Duration::from_secs(5);
     let start = Instant::now(rt).ok()?;
