@@ -15,7 +15,7 @@ const ATTACH_REFUSED: &str =
 fn is_fair(ending: Ending, told: &str, whole: &str) -> bool {
     let (before, behind) = told.split_once("refused memory\n").unwrap_or((told, ""));
     let Some(rest) = whole.strip_prefix(before) else {
-        return told == ATTACH_REFUSED;
+        return false;
     };
     match ending {
         Ok(()) => {
