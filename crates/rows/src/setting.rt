@@ -56,6 +56,7 @@ impl Setting {
         let [number, _, _] = command.numbers;
         match command.word {
             "counts" => self.counts(),
+            "living" => Said::of("living").and(self.tally.living()),
             "refuse" => set(&self.refused, self.tally.calls().wrapping_add(number)),
             "late" => set(&self.late, number),
             "zero" => set(&self.zeroes, 1),

@@ -1,6 +1,7 @@
 //! Threads that play rows at one table.
-use crate::row::Difference;
+use crate::row::{Difference, Player, first_difference};
 use std::alloc::{AllocError, Global};
+use std::process::Abort;
 use std::sync::Arc;
 use std::sync::atomic::AtomicUsize;
 use std::sync::atomic::Ordering::SeqCst;
@@ -57,4 +58,21 @@ pub fn joined<R: Threads>(rt: &R, started: Started) -> Option<Difference> {
         found = thread.join(rt).or(found);
     }
     found
+}
+
+/// Commands and their answers.
+pub type Line = (&'static str, &'static str);
+
+/// One plays the first line alone, and the last one beside so many threads at a table.
+pub fn play_beside<T: Table + 'static, P: Player, R: Abort + AllocGlobal + Threads>(
+    rt: &R,
+    player: &mut P,
+    table: &Arc<T>,
+    threads: usize,
+    [first, last]: [Line; 2],
+) {
+    assert_eq!(*rt; first_difference(player, first.0, first.1), None);
+    let others = started(rt, rt.alloc(), table, threads).expect(rt, "each thread is started");
+    assert_eq!(*rt; first_difference(player, last.0, last.1), None);
+    assert_eq!(*rt; joined(rt, others), None);
 }

@@ -6,12 +6,13 @@
 use linear_pools::page::PullPass;
 use linear_pools::{LinearObjectPool, LinearOwnedReusable, LinearReusable, PullError};
 use pool_parts::reusable::Reusable;
+use rows::held::Held;
 use rows::row::{Command, Player};
 use rows::said::Said;
-use rows::setting::{Makes, Resets, Setting, refused, said_of_two};
-use std::alloc::{AllocError, Global};
+use rows::setting::{Makes, Resets, Setting, said_of_two};
+use std::alloc::Global;
 use std::sync::Arc;
-use std::{mem, thread};
+use std::thread;
 use test_values::tallied::Tallied;
 
 pub type Pool = LinearObjectPool<Tallied, Makes, Resets>;
@@ -22,7 +23,7 @@ pub type Owned = LinearOwnedReusable<Tallied, Makes, Resets>;
 
 /// An item, however it was pulled.
 #[derive(Drop)]
-enum Item<'p> {
+pub enum Item<'p> {
     Borrowed(Borrowed<'p>),
     Owned(Owned),
 }
@@ -32,58 +33,18 @@ fn number_of(page: usize, id: u8) -> usize {
     page.wrapping_mul(32).wrapping_add(id as usize)
 }
 
-impl Item<'_> {
-    fn number(&self) -> usize {
-        match self {
-            Item::Borrowed(item) => number_of(item.page_number(), item.page_id()),
-            Item::Owned(item) => number_of(item.page_number(), item.page_id()),
-        }
-    }
-
-    fn value(&self) -> usize {
-        match self {
-            Item::Borrowed(item) => item.number,
-            Item::Owned(item) => item.number,
-        }
-    }
-
-    fn write(&mut self, value: usize) {
-        match self {
-            Item::Borrowed(item) => item.number = value,
-            Item::Owned(item) => item.number = value,
-        }
-    }
-
-    /// Tells a note of its page what its holder knows.
-    fn tell(&mut self) {
-        match self {
-            Item::Borrowed(item) => {
-                let (mut note, known) = (item.note(), item.witness());
-                item.tell(&mut note, known);
-            }
-            Item::Owned(item) => {
-                let (mut note, known) = (item.note(), item.witness());
-                item.tell(&mut note, known);
-            }
-        }
-    }
-
-    /// Returns it by a call, not by its drop.
-    fn give_back(self) {
-        match self {
-            Item::Borrowed(item) => drop(item.give_back()),
-            Item::Owned(item) => drop(item.give_back()),
-        }
-    }
-}
-
-fn borrowed<'p>(pulled: Result<Borrowed<'p>, PullError>) -> Result<Item<'p>, PullError> {
-    Ok(Item::Borrowed(pulled?))
-}
-
-fn owned<'p>(pulled: Result<Owned, PullError>) -> Result<Item<'p>, PullError> {
-    Ok(Item::Owned(pulled?))
-}
+rows::held_items!(
+    'p,
+    Item<'p>,
+    Borrowed<'p>,
+    Owned,
+    item,
+    number_of(item.page_number(), item.page_id()),
+    item.page_number(),
+    item.page_id(),
+    item.number,
+    item.give_back()
+);
 
 /// Pulls by a call that shows what it found in place of an item.
 fn tried(pool: &Pool) -> Result<Borrowed<'_>, PullError> {
@@ -141,9 +102,7 @@ fn pair(pool: &Pool) -> Result<(usize, usize), PullError> {
 pub struct LinearPlayer<'p> {
     pool: &'p Arc<Pool>,
     setting: &'p Arc<Setting>,
-    held: Vec<Item<'p>>,
-    /// How many items were forgotten, which stay out for good.
-    pub forgotten: usize,
+    pub held: Held<Item<'p>, Owned>,
     /// What this player alone writes by `often`.
     pub mark: usize,
 }
@@ -155,71 +114,29 @@ impl<'p> LinearPlayer<'p> {
         pool: &'p Arc<Pool>,
         setting: &'p Arc<Setting>,
         room: usize,
-    ) -> Result<LinearPlayer<'p>, AllocError> {
+    ) -> Result<LinearPlayer<'p>, PullError> {
         Ok(LinearPlayer {
             pool,
             setting,
-            held: Vec::with_capacity(alloc, room)?,
-            forgotten: 0,
+            held: Held::new(alloc, room)?,
             mark: 0,
         })
     }
 
-    /// Holds what was pulled.
-    fn hold(&mut self, pulled: Result<Item<'p>, PullError>) -> Said {
-        match pulled {
-            Ok(item) => {
-                let said = Said::of("pulled").and(item.number()).and(item.value());
-                match self.held.push(item) {
-                    Ok(()) => said,
-                    Err(_) => Said::of("no room"),
-                }
+    /// Tells a note of a held item's page what its holder knows.
+    fn tell(&mut self, index: usize) -> Said {
+        match self.held.item(index) {
+            None => return Said::of("not held"),
+            Some(Item::Borrowed(item)) => {
+                let (mut note, known) = (item.note(), item.witness());
+                item.tell(&mut note, known);
             }
-            Err(cause) => refused(cause),
-        }
-    }
-
-    /// Does a command for which an item is held.
-    fn use_held(&mut self, command: Command) -> Said {
-        let [index, number, _] = command.numbers;
-        let Some(item) = self.held.get_mut(index) else {
-            return Said::of("not held");
-        };
-        match command.word {
-            "look" => Said::of("lies").and(item.number()).and(item.value()),
-            "write" => {
-                item.write(number);
-                Said::of("written")
-            }
-            _ => {
-                item.tell();
-                Said::of("told")
+            Some(Item::Owned(item)) => {
+                let (mut note, known) = (item.note(), item.witness());
+                item.tell(&mut note, known);
             }
         }
-    }
-
-    /// Does a command by which a held item leaves.
-    fn leave(&mut self, command: Command) -> Said {
-        let [index, _, _] = command.numbers;
-        if self.held.len() <= index {
-            return Said::of("not held");
-        }
-        let item = self.held.remove(index);
-        match (command.word, item) {
-            ("give", item) => {
-                item.give_back();
-                Said::of("returned")
-            }
-            ("forget", Item::Borrowed(item)) => {
-                mem::forget(item);
-                self.forgotten = self.forgotten.wrapping_add(1);
-                Said::of("forgotten")
-            }
-            (_, item) => {
-                drop(item);
-                Said::of("returned")
-            }
-        }
+        Said::of("told")
     }
 
     /// Pulls, writes the mark and returns, so often. Says how often the item didn't have the value of
@@ -248,17 +165,6 @@ impl<'p> LinearPlayer<'p> {
             None => Said::of("no limit"),
         }
     }
-
-    /// The owned items that are held. The borrowed ones come back.
-    pub fn into_owned(self, alloc: Global) -> Result<Vec<Owned>, AllocError> {
-        let mut owned = Vec::with_capacity(alloc, self.held.len())?;
-        for item in self.held {
-            if let Item::Owned(item) = item {
-                owned.push(item)?;
-            }
-        }
-        Ok(owned)
-    }
 }
 
 impl<'p> Player for LinearPlayer<'p> {
@@ -266,17 +172,17 @@ impl<'p> Player for LinearPlayer<'p> {
         let [written, _, _] = command.numbers;
         let pool = self.pool;
         match command.word {
-            "pull" => self.hold(borrowed(pool.pull())),
-            "try" => self.hold(borrowed(tried(pool))),
-            "again" => self.hold(borrowed(tried_again(pool))),
-            "owned" => self.hold(owned(pool.pull_owned())),
+            "pull" => self.held.borrow(pool.pull()),
+            "try" => self.held.borrow(tried(pool)),
+            "again" => self.held.borrow(tried_again(pool)),
+            "owned" => self.held.own(pool.pull_owned()),
             "reset_first" => said_of_two("reset", reset_first(pool, written)),
             "pair" => said_of_two("two", pair(pool)),
             "often" => self.often(written),
             "limit" => self.limit(),
             "owners" => self.setting.owners(Arc::strong_count(pool)),
-            "look" | "write" | "tell" => self.use_held(command),
-            "return" | "give" | "forget" => self.leave(command),
+            "tell" => self.tell(written),
+            "look" | "write" | "return" | "give" | "forget" => self.held.play(command),
             _ => self.setting.play(command),
         }
     }

@@ -9,8 +9,6 @@ mod assert_equal;
 #[cfg(test)]
 mod fixed_pool;
 #[cfg(test)]
-mod linear_pool;
-#[cfg(test)]
 mod pages;
 #[cfg(test)]
 mod refusals;
