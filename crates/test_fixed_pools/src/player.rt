@@ -9,12 +9,13 @@ use fixed_pools::fixed_object_pool::{Near, PoolNote};
 use fixed_pools::page::PullPass;
 use fixed_pools::{FixedObjectPool, FixedOwnedReusable, FixedReusable, PullError};
 use pool_parts::reusable::Reusable;
+use rows::held::Held;
 use rows::row::{Command, Player};
 use rows::said::Said;
-use rows::setting::{Makes, Resets, Setting, refused, said_of_two};
-use std::alloc::{AllocError, Global};
+use rows::setting::{Makes, Resets, Setting, said_of_two};
+use std::alloc::Global;
 use std::sync::Arc;
-use std::{mem, thread};
+use std::thread;
 use test_values::tallied::Tallied;
 
 pub type Pool = FixedObjectPool<Tallied, Makes, Resets>;
@@ -25,61 +26,23 @@ pub type Owned = FixedOwnedReusable<Tallied, Makes, Resets>;
 
 /// An item, however it was pulled.
 #[derive(Drop)]
-enum Item<'p> {
+pub enum Item<'p> {
     Borrowed(Borrowed<'p>),
     Owned(Owned),
 }
 
-impl Item<'_> {
-    fn number(&self) -> usize {
-        match self {
-            Item::Borrowed(item) => item.number(),
-            Item::Owned(item) => item.number(),
-        }
-    }
-
-    fn value(&self) -> usize {
-        match self {
-            Item::Borrowed(item) => item.number,
-            Item::Owned(item) => item.number,
-        }
-    }
-
-    fn write(&mut self, value: usize) {
-        match self {
-            Item::Borrowed(item) => item.number = value,
-            Item::Owned(item) => item.number = value,
-        }
-    }
-
-    /// Its page, its number in the page, and its value.
-    fn seen(&self) -> Said {
-        let (page, id) = match self {
-            Item::Borrowed(item) => (item.page_number(), item.page_id()),
-            Item::Owned(item) => (item.page_number(), item.page_id()),
-        };
-        Said::of("lies")
-            .and(page)
-            .and(id as usize)
-            .and(self.value())
-    }
-
-    /// Returns it by a call, not by its drop.
-    fn give_back(self) {
-        match self {
-            Item::Borrowed(item) => drop(item.give_back()),
-            Item::Owned(item) => drop(item.give_back()),
-        }
-    }
-}
-
-fn borrowed<'p>(pulled: Result<Borrowed<'p>, PullError>) -> Result<Item<'p>, PullError> {
-    Ok(Item::Borrowed(pulled?))
-}
-
-fn owned<'p>(pulled: Result<Owned, PullError>) -> Result<Item<'p>, PullError> {
-    Ok(Item::Owned(pulled?))
-}
+rows::held_items!(
+    'p,
+    Item<'p>,
+    Borrowed<'p>,
+    Owned,
+    item,
+    item.number(),
+    item.page_number(),
+    item.page_id(),
+    item.number,
+    item.give_back()
+);
 
 /// Pulls by one pass.
 fn tried(pool: &Pool) -> Result<Borrowed<'_>, PullError> {
@@ -213,9 +176,7 @@ pub struct FixedPlayer<'p> {
     pool: &'p Arc<Pool>,
     setting: &'p Arc<Setting>,
     near: Near<'p, Tallied, Makes, Resets>,
-    held: Vec<Item<'p>>,
-    /// How many items were forgotten, which stay out for good.
-    pub forgotten: usize,
+    pub held: Held<Item<'p>, Owned>,
     /// What this player alone writes by `often`.
     pub mark: usize,
 }
@@ -227,78 +188,36 @@ impl<'p> FixedPlayer<'p> {
         pool: &'p Arc<Pool>,
         setting: &'p Arc<Setting>,
         room: usize,
-    ) -> Result<FixedPlayer<'p>, AllocError> {
+    ) -> Result<FixedPlayer<'p>, PullError> {
         Ok(FixedPlayer {
             pool,
             setting,
             near: pool.near(),
-            held: Vec::with_capacity(alloc, room)?,
-            forgotten: 0,
+            held: Held::new(alloc, room)?,
             mark: 0,
         })
     }
 
-    /// Holds what was pulled.
-    fn hold(&mut self, pulled: Result<Item<'p>, PullError>) -> Said {
-        match pulled {
-            Ok(item) => {
-                let said = Said::of("pulled").and(item.number()).and(item.value());
-                match self.held.push(item) {
-                    Ok(()) => said,
-                    Err(_) => Said::of("no room"),
-                }
+    /// Pulls by a note that was told what an item's holder knows.
+    fn after(&mut self, index: usize) -> Said {
+        match self.held.item(index) {
+            None => Said::of("not held"),
+            Some(Item::Owned(_)) => Said::of("not borrowed"),
+            Some(Item::Borrowed(item)) => {
+                let pulled = tried_after(item);
+                self.held.borrow(pulled)
             }
-            Err(cause) => refused(cause),
         }
     }
 
-    /// Does a command for which an item is held.
-    fn use_held(&mut self, command: Command) -> Said {
-        let [index, number, _] = command.numbers;
-        let Some(item) = self.held.get_mut(index) else {
-            return Said::of("not held");
-        };
-        match command.word {
-            "look" => item.seen(),
-            "write" => {
-                item.write(number);
-                Said::of("written")
-            }
-            "after" => match item {
-                Item::Borrowed(item) => {
-                    let pulled = tried_after(item);
-                    self.hold(borrowed(pulled))
-                }
-                Item::Owned(_) => Said::of("not borrowed"),
-            },
-            _ => Said::of("no such command"),
-        }
-    }
-
-    /// Does a command by which a held item leaves.
-    fn leave(&mut self, command: Command) -> Said {
+    /// A held item leaves, and one is pulled.
+    fn again(&mut self, command: Command) -> Said {
         let [index, page, _] = command.numbers;
-        if self.held.len() <= index {
-            return Said::of("not held");
-        }
-        let item = self.held.remove(index);
-        match (command.word, item) {
-            ("again", Item::Borrowed(item)) => self.hold(borrowed(tried_again(item))),
-            ("again", Item::Owned(item)) => self.hold(owned(by_owner_again(item, page))),
-            ("owner_after", item) => self.hold(owned(by_owner_after(self.pool, item, page))),
-            ("give", item) => {
-                item.give_back();
-                Said::of("returned")
-            }
-            ("forget", Item::Borrowed(item)) => {
-                mem::forget(item);
-                self.forgotten = self.forgotten.wrapping_add(1);
-                Said::of("forgotten")
-            }
-            (_, item) => {
-                drop(item);
-                Said::of("returned")
-            }
+        match (command.word, self.held.take(index)) {
+            (_, None) => Said::of("not held"),
+            ("owner_after", Some(item)) => self.held.own(by_owner_after(self.pool, item, page)),
+            (_, Some(Item::Borrowed(item))) => self.held.borrow(tried_again(item)),
+            (_, Some(Item::Owned(item))) => self.held.own(by_owner_again(item, page)),
         }
     }
 
@@ -333,17 +252,6 @@ impl<'p> FixedPlayer<'p> {
         }
         Said::of("refused").and(refusals)
     }
-
-    /// The owned items that are held. The borrowed ones come back.
-    pub fn into_owned(self, alloc: Global) -> Result<Vec<Owned>, AllocError> {
-        let mut owned = Vec::with_capacity(alloc, self.held.len())?;
-        for item in self.held {
-            if let Item::Owned(item) = item {
-                owned.push(item)?;
-            }
-        }
-        Ok(owned)
-    }
 }
 
 impl<'p> Player for FixedPlayer<'p> {
@@ -351,15 +259,12 @@ impl<'p> Player for FixedPlayer<'p> {
         let [first, second, _] = command.numbers;
         let pool = self.pool;
         match command.word {
-            "pull" => self.hold(borrowed(pool.pull())),
-            "near" => self.hold(borrowed(pool.pull_near(first))),
-            "here" => {
-                let pulled = self.near.pull();
-                self.hold(borrowed(pulled))
-            }
-            "try" => self.hold(borrowed(tried(pool))),
-            "owned" => self.hold(owned(pool.pull_owned())),
-            "owner" => self.hold(owned(by_owner(pool, first))),
+            "pull" => self.held.borrow(pool.pull()),
+            "near" => self.held.borrow(pool.pull_near(first)),
+            "here" => self.held.borrow(self.near.pull()),
+            "try" => self.held.borrow(tried(pool)),
+            "owned" => self.held.own(pool.pull_owned()),
+            "owner" => self.held.own(by_owner(pool, first)),
             "place" => {
                 self.near = pool.near();
                 Said::of("at page").and(self.near.page_number())
@@ -372,8 +277,9 @@ impl<'p> Player for FixedPlayer<'p> {
             "often" => self.often(first),
             "each_way" => self.each_way(first),
             "owners" => self.setting.owners(Arc::strong_count(pool)),
-            "look" | "write" | "after" => self.use_held(command),
-            "return" | "give" | "again" | "owner_after" | "forget" => self.leave(command),
+            "after" => self.after(first),
+            "again" | "owner_after" => self.again(command),
+            "look" | "write" | "return" | "give" | "forget" => self.held.play(command),
             _ => self.setting.play(command),
         }
     }
