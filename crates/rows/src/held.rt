@@ -237,7 +237,7 @@ impl<O: Drop, I: Pulled<Owned = O>> Held<I, O> {
 #[derive(Drop)]
 pub struct Left<O> {
     pub owned: Vec<O>,
-    forgotten: usize,
+    pub forgotten: usize,
 }
 
 impl<O: Drop> Left<O> {

@@ -71,6 +71,16 @@ impl Setting {
         }
     }
 
+    /// Makes a value of the tally.
+    pub fn make(&self) -> Option<Tallied> {
+        let value = Tallied::new_but(&self.tally, self.refused.load(SeqCst))?;
+        if value.number == self.late.load(SeqCst) {
+            self.begun.store(1, SeqCst);
+            wait_for(&self.gone, 1);
+        }
+        Some(value)
+    }
+
     /// Counts one more who came to where threads meet.
     pub fn come(&self) {
         self.came.fetch_add(1, SeqCst);
@@ -130,13 +140,7 @@ impl Init<Tallied, AnyValue> for Makes {
     ghost answers = { λ _ _. ⊤ };
 
     fn make(&self) -> Option<Tallied> {
-        let setting = &self.setting;
-        let value = Tallied::new_but(&setting.tally, setting.refused.load(SeqCst))?;
-        if value.number == setting.late.load(SeqCst) {
-            setting.begun.store(1, SeqCst);
-            wait_for(&setting.gone, 1);
-        }
-        Some(value)
+        self.setting.make()
     }
 }
 

@@ -7,8 +7,4 @@
 #[cfg(test)]
 mod assert_equal;
 #[cfg(test)]
-mod fixed_pool;
-#[cfg(test)]
-mod pages;
-#[cfg(test)]
 mod refusals;
