@@ -1,41 +1,24 @@
 //! Pools that are made where memory is refused, and calls that take none.
-use crate::items::{Pool, made};
+use crate::items::{Pool, made, never};
 use crate::plays::{ends, pool_of};
 use lazy_pools::PullError;
 use pool_model::book::new_book;
-use pool_model::value::Value;
+use rows::asked_again;
+use rows::refusals::Refusals;
 use std::process::Abort;
 use std::rt::Clock;
 use std::sync::{Arc, Wait};
 use std::time::Duration;
-use test_values::again;
 
 #[test]
 fn a_pool_is_made_again_where_memory_was_refused(rt: HostRuntime) {
-    let book = again!(new_book(rt.alloc())).expect(&rt, "one request alone is refused");
-    let pool = again!(pool_of(rt.alloc(), &book, 70)).expect(&rt, "one request alone is refused");
+    let refusals = Refusals::new();
+    let book = asked_again!(&rt, refusals, new_book(rt.alloc()));
+    let pool = asked_again!(&rt, refusals, pool_of(rt.alloc(), &book, 70));
     let first = pool.pull().map(|item| item.serial);
     assert!(rt; (first, pool.items(), pool.made()) == (Ok(0), 70, 1));
     assert!(rt; ends(pool, &book, None, 0));
-}
-
-#[test]
-fn an_item_takes_no_memory(rt: HostRuntime) {
-    let book = again!(new_book(rt.alloc())).expect(&rt, "one request alone is refused");
-    let pool = again!(pool_of(rt.alloc(), &book, 2)).expect(&rt, "one request alone is refused");
-    for _ in 0..3 {
-        let first = pool.pull_owned().expect(&rt, "an item is free");
-        let second = pool.pull_wait(&rt).expect(&rt, "an item is free");
-        let other = pool.pull_owned_timeout(&rt, Duration::from_millis(1)).err();
-        assert!(rt; other == Some(PullError::Limit));
-        drop(first);
-        drop(second);
-    }
-    assert!(rt; ends(pool, &book, None, 0));
-}
-/// Makes no value.
-fn never() -> Result<Value, PullError> {
-    Err(PullError::Init)
+    refusals.tell(&rt);
 }
 
 /// Pulls an item by each kind of pull that waits and makes by a closure, which fails, and drops what
@@ -51,6 +34,9 @@ fn wait_and_clear<R: Abort + Wait + Clock>(rt: &R, pool: &Arc<Pool>) {
         made(pool.pull_with(never)).err(),
         pool.fill(2).err(),
     ];
+    let held = (pool.pull_owned(), pool.pull_owned());
+    assert!(*rt; pool.pull_owned_timeout(rt, time).err() == Some(PullError::Limit));
+    drop(held);
     pool.clear();
     let init = Some(PullError::Init);
     assert!(*rt; refusals == [init, init, init, init, None, None, None]);
