@@ -106,7 +106,10 @@ fn eight_threads_wait_for_one_item(rt: HostRuntime) {
 
 #[test]
 fn eight_threads_wait_for_three_items(rt: HostRuntime) {
-    let last = ("until 8; stands", "met; made 1 0 0|made 2 0 0|made 3 0 0");
+    let last = (
+        "until 8; stands; pull*3; pull; stands",
+        "met; made _ 0 0; pulled _ _; refused limit; made 3 3 0",
+    );
     play_beside(&rt, 3, 8, last, &[("turn 5000", "served")]);
 }
 

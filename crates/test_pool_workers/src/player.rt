@@ -109,7 +109,11 @@ impl<'w, P: WorkerPlace<Value>, S: Shared<P, P::Item>> WorkerPlayer<'w, P, S> {
     /// Another user pulls an item and returns it.
     fn visited(&self) -> Result<Item, PullError> {
         let item = self.pool.place().pull()?;
-        Ok((S::number_of(&item), item.value().serial))
+        let seen = (S::number_of(&item), item.value().serial);
+        if let Ok(left) = item.try_reset() {
+            left.give_kept();
+        }
+        Ok(seen)
     }
 
     fn hold(&mut self, item: WorkerReusable<'w, Value, P>) -> Said {
