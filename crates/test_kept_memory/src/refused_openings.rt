@@ -5,14 +5,11 @@
 //! go, so that each block can be had again. No clause tells of a block that an opening forgot, and
 //! no test sees it.
 use crate::blocks::{Blocks, fill};
-use lockfree_object_pool::clean::AnyValue;
-use lockfree_object_pool::closures::{Copied, Keep};
-use lockfree_object_pool::{FixedObjectPool, PullError, SpinLockObjectPool};
+use crate::growth::{Fixed, Zeros};
+use lockfree_object_pool::closures::Keep;
+use lockfree_object_pool::{PullError, SpinLockObjectPool};
 use std::alloc::Global;
 use std::io;
-
-/// What makes the items.
-type Zeros = Copied<u64, AnyValue>;
 
 /// What was seen of openings.
 #[derive(Clone, Copy)]
@@ -69,6 +66,6 @@ fn open_lock(alloc: Global) -> Result<(), PullError> {
 
 /// Opens a fixed pool of one item, which ends at once.
 fn open_fixed(alloc: Global) -> Result<(), PullError> {
-    let _pool = FixedObjectPool::new(alloc, Zeros::new(0), Keep, 1)?;
+    let _pool = Fixed::new(alloc, Zeros::new(0), Keep, 1)?;
     Ok(())
 }
