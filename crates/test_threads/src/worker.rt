@@ -1,7 +1,7 @@
 //! What one of the threads does: it pulls, writes, checks, drops and forgets items, and sends owned
 //! ones to the others.
 use crate::item::Item;
-use crate::report::Report;
+use crate::report::{Report, one_more};
 use crossbeam_channel::{Receiver, Sender};
 use lockfree_object_pool::PullError;
 use rand_core::Rng;
@@ -33,13 +33,6 @@ pub enum Turn {
     Receive,
 }
 
-/// The channel of the threads, by both its ends.
-#[derive(Drop)]
-pub struct Post<A: Drop> {
-    pub sender: Sender<Marked<A>>,
-    pub receiver: Receiver<Marked<A>>,
-}
-
 /// A thread, with the owned items that it holds.
 #[derive(Drop)]
 pub struct Worker<A: Drop> {
@@ -47,24 +40,31 @@ pub struct Worker<A: Drop> {
     /// What it writes next. No other worker writes it.
     mark: u32,
     held: Vec<Marked<A>>,
-    post: Post<A>,
+    sender: Sender<Marked<A>>,
+    receiver: Receiver<Marked<A>>,
     report: Report,
 }
 
 impl<A: Drop> Worker<A> {
-    /// Creates a worker that holds nothing, of a number of its own from 1 on.
-    pub fn new(alloc: Global, number: u32, post: Post<A>) -> Worker<A> {
+    /// Creates a worker that holds nothing, of a number of its own from 1 on, at a channel.
+    pub fn new(
+        alloc: Global,
+        number: u32,
+        sender: Sender<Marked<A>>,
+        receiver: Receiver<Marked<A>>,
+    ) -> Worker<A> {
         Worker {
             random: Pcg32::new(u64::from(number), 54),
             mark: number.wrapping_shl(24),
             held: Vec::new(alloc),
-            post,
-            report: Report::new(),
+            sender,
+            receiver,
+            report: Report::default(),
         }
     }
 }
 
-impl<T: Item, A: DerefMut<Target = T> + Drop> Worker<A> {
+impl<A: DerefMut<Target = Item> + Drop> Worker<A> {
     /// Returns what it does next, with a number of its own that it writes.
     pub fn next_turn(&mut self) -> Turn {
         self.mark = self.mark.wrapping_add(1);
@@ -90,51 +90,49 @@ impl<T: Item, A: DerefMut<Target = T> + Drop> Worker<A> {
     pub fn pulled<B: Drop>(&mut self, pulled: Result<B, PullError>) -> Option<B> {
         match pulled {
             Ok(item) => return Some(item),
-            Err(PullError::Memory) => self.report.count_without_memory(),
-            Err(PullError::Init) => self.report.count_refused(),
+            Err(PullError::Memory) => one_more(&mut self.report.without_memory),
+            Err(PullError::Init) => one_more(&mut self.report.refused),
             Err(PullError::Limit | PullError::Closed) => {}
         }
         None
     }
 
     /// Writes to an item that was pulled now, and lets other threads run before it looks again.
-    pub fn mark(&mut self, item: &mut T) {
+    pub fn mark(&mut self, item: &mut Item) {
         if !item.is_clear() {
-            self.report.count_unclear();
+            one_more(&mut self.report.unclear);
         }
         if !item.write(self.mark) {
-            self.report.count_without_memory();
+            one_more(&mut self.report.without_memory);
             return;
         }
         thread::yield_now();
         if !item.shows(self.mark) {
-            self.report.count_shared();
+            one_more(&mut self.report.shared);
         }
     }
 
     /// Looks at an item that was marked before, here or on another thread.
     fn check(&mut self, marked: &Marked<A>) {
         if !marked.item.shows(marked.mark) {
-            self.report.count_shared();
+            one_more(&mut self.report.shared);
         }
     }
 
-    /// Uses a borrowed item, and drops or forgets it.
-    pub fn use_borrowed<B: DerefMut<Target = T> + Drop>(&mut self, pulled: Result<B, PullError>) {
+    /// Uses an item and drops it, or forgets it now and then, if it may.
+    pub fn use_one<B: DerefMut<Target = Item> + Drop>(
+        &mut self,
+        pulled: Result<B, PullError>,
+        may_forget: bool,
+    ) {
         let Some(mut item) = self.pulled(pulled) else {
             return;
         };
         self.mark(&mut *item);
-        if self.report.forgotten < MOST_FORGOTTEN && self.random.next_u32() % 64 == 0 {
-            self.report.forgotten = self.report.forgotten.saturating_add(1);
+        let may_forget = may_forget && self.report.forgotten < MOST_FORGOTTEN;
+        if may_forget && self.random.next_u32() % 64 == 0 {
+            one_more(&mut self.report.forgotten);
             mem::forget(item);
-        }
-    }
-
-    /// Uses an item and drops it.
-    pub fn use_once<B: DerefMut<Target = T> + Drop>(&mut self, pulled: Result<B, PullError>) {
-        if let Some(mut item) = self.pulled(pulled) {
-            self.mark(&mut *item);
         }
     }
 
@@ -150,7 +148,7 @@ impl<T: Item, A: DerefMut<Target = T> + Drop> Worker<A> {
     /// Holds the item where it may hold one more, and drops it else.
     fn hold(&mut self, marked: Marked<A>) {
         if self.held.len() < MOST_HELD && self.held.push(marked).is_err() {
-            self.report.count_without_memory();
+            one_more(&mut self.report.without_memory);
         }
     }
 
@@ -162,14 +160,14 @@ impl<T: Item, A: DerefMut<Target = T> + Drop> Worker<A> {
         let index = self.random.next_u32() as usize % self.held.len();
         let marked = self.held.swap_remove(index);
         self.check(&marked);
-        if self.random.next_u32() % 2 == 0 && self.post.sender.send(rt, marked).is_err() {
-            self.report.count_without_memory();
+        if self.random.next_u32() % 2 == 0 && self.sender.send(rt, marked).is_err() {
+            one_more(&mut self.report.without_memory);
         }
     }
 
     /// Receives an item, if one waits.
     pub fn receive<W: Wait>(&mut self, rt: &W) {
-        if let Ok(marked) = self.post.receiver.try_recv(rt) {
+        if let Ok(marked) = self.receiver.try_recv(rt) {
             self.check(&marked);
             self.hold(marked);
         }

@@ -1,8 +1,9 @@
 //! Calls are read and done one after another, and each is answered.
 use super::item::{Item, Totals};
 use super::pools::{Gives, Held};
-use anyhow::{Context, Result, ensure};
+use anyhow::{Context, Result, bail, ensure};
 use std::io::{BufRead, BufReader, BufWriter, Write};
+use std::ops::DerefMut;
 use std::sync::Arc;
 use std::{io, mem};
 use test_values::tally::Tally;
@@ -32,7 +33,7 @@ pub fn replay<R: Input + Print + AllocGlobal, P: Gives<R>>(
     Ok(())
 }
 
-/// Does the call that a line writes, and tells what it gave.
+/// Does the call that a line writes, and tells what it gave. An item that comes is held.
 fn answer<R, P: Gives<R>, W: Write>(
     rt: &R,
     tally: &Arc<Tally>,
@@ -43,68 +44,13 @@ fn answer<R, P: Gives<R>, W: Write>(
 ) -> Result<()>
     requires { P.may_give pool.now }
 {
-    match words {
-        ["pull"] => give(rt, pool, false, None, held, output)?,
-        ["pull_owned"] => give(rt, pool, true, None, held, output)?,
-        ["attach", number] => {
-            give(
-                rt,
-                pool,
-                false,
-                Some(attached(tally, number)?),
-                held,
-                output,
-            )?;
-        }
-        ["attach_owned", number] => {
-            give(rt, pool, true, Some(attached(tally, number)?), held, output)?;
-        }
-        ["write", place, content] => {
-            let content = number_of(content)?;
-            let item = held
-                .get_mut(number_of(place)? as usize)
-                .context("no such item")?;
-            write!(
-                output,
-                "had {}",
-                mem::replace(&mut item.item().content, content)
-            )?;
-        }
-        ["drop", place] => {
-            drop(taken(held, place)?);
-            write!(output, "went")?;
-        }
-        [word, place] => {
-            ensure!(*word == "forget", "a line is no call");
-            mem::forget(taken(held, place)?);
-            write!(output, "went")?;
-        }
-        _ => ensure!(false, "a line is no call"),
-    }
-    Ok(())
-}
-
-/// The number that a word writes.
-fn number_of(word: &str) -> Result<u64> {
-    word.parse().ok().context("a line is no call")
-}
-
-/// An item that is to be attached.
-fn attached(tally: &Arc<Tally>, number: &str) -> Result<Item> {
-    Item::new(tally, number_of(number)?).context("the counts have no more owners")
-}
-
-/// Asks a pool for an item, and holds it if it comes.
-fn give<R, P: Gives<R>, W: Write>(
-    rt: &R,
-    pool: &P,
-    is_owned: bool,
-    attached: Option<Item>,
-    held: &mut AllHeld<P, R>,
-    output: &mut W,
-) -> Result<()>
-    requires { P.may_give pool.now }
-{
+    let (is_owned, attached) = match words {
+        ["pull"] => (false, None),
+        ["pull_owned"] => (true, None),
+        ["attach", number] => (false, Some(item_of(tally, number)?)),
+        ["attach_owned", number] => (true, Some(item_of(tally, number)?)),
+        _ => return use_held(held, words, output),
+    };
     let Some((mut given, place)) = pool.give(rt, is_owned, attached) else {
         write!(output, "refused")?;
         return Ok(());
@@ -117,6 +63,43 @@ fn give<R, P: Gives<R>, W: Write>(
     write!(output, " has {}", item.content)?;
     held.push(given)?;
     Ok(())
+}
+
+/// Does a call on an item that is held.
+fn use_held<A: DerefMut<Target = Item> + Drop, B: DerefMut<Target = Item> + Drop, W: Write>(
+    held: &mut Vec<Held<A, B>>,
+    words: &[&str],
+    output: &mut W,
+) -> Result<()> {
+    match words {
+        ["write", place, content] => {
+            let content = number_of(content)?;
+            let place = number_of(place)? as usize;
+            let held = held.get_mut(place).context("no such item")?;
+            let before = mem::replace(&mut held.item().content, content);
+            write!(output, "had {before}")?;
+        }
+        ["drop", place] => {
+            drop(taken(held, place)?);
+            write!(output, "went")?;
+        }
+        ["forget", place] => {
+            mem::forget(taken(held, place)?);
+            write!(output, "went")?;
+        }
+        _ => bail!("a line is no call"),
+    }
+    Ok(())
+}
+
+/// The number that a word writes.
+fn number_of(word: &str) -> Result<u64> {
+    word.parse().ok().context("a line is no call")
+}
+
+/// An item that is to be attached.
+fn item_of(tally: &Arc<Tally>, number: &str) -> Result<Item> {
+    Item::new(tally, number_of(number)?).context("the counts have no more owners")
 }
 
 /// Takes the item at a place.
