@@ -46,7 +46,6 @@ fn let_begin(step: &AtomicU32, loads: u32) {
 
 /// How often a watcher looks at once, and then how often in all, a millisecond apart.
 const YIELDS: u32 = 1_000;
-
 const MOST_TURNS: u32 = 31_000;
 
 /// How often a thread that waits too long is freed.

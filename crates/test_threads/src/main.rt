@@ -63,7 +63,6 @@ const POOLS: [(&str, Pool); 3] = [
     ("fixed", Pool::Fixed),
     ("spin lock", Pool::SpinLock),
 ];
-
 const KINDS: [(&str, Kind); 3] = [
     ("numbers", Kind::Number),
     ("lists", Kind::List),

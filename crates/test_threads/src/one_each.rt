@@ -15,7 +15,6 @@ use std::thread::Threads;
 const THREADS: usize = 8;
 
 type Fixed = FixedObjectPool<u32, Copied<u32, AnyValue>, Copied<u32, AnyValue>, AnyValue>;
-
 type Lazy = LazyObjectPool<u32, Copied<u32, AnyValue>, Keep>;
 
 /// What the threads share.

@@ -44,7 +44,6 @@ type FixedOwned = FixedOwnedReusable<Item, Maker, Clears, AnyValue>;
 
 /// What a stack pool keeps.
 type StackedItems = MadeOrReset<Maker, Clears, AnyValue>;
-
 type Stack<F> = StackObjectPool<Item, Maker, Clears, AnyValue, F>;
 type StackOwned<F, W> = StackReusable<Item, Arc<Stack<F>>, W>;
 

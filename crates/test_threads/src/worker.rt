@@ -125,14 +125,13 @@ impl<A: DerefMut<Target = Item> + Drop> Worker<A> {
         pulled: Result<B, PullError>,
         may_forget: bool,
     ) {
-        let Some(mut item) = self.pulled(pulled) else {
-            return;
-        };
-        self.mark(&mut *item);
-        let may_forget = may_forget && self.report.forgotten < MOST_FORGOTTEN;
-        if may_forget && self.random.next_u32() % 64 == 0 {
-            one_more(&mut self.report.forgotten);
-            mem::forget(item);
+        if let Some(mut item) = self.pulled(pulled) {
+            self.mark(&mut *item);
+            let may_forget = may_forget && self.report.forgotten < MOST_FORGOTTEN;
+            if may_forget && self.random.next_u32() % 64 == 0 {
+                one_more(&mut self.report.forgotten);
+                mem::forget(item);
+            }
         }
     }
 
