@@ -79,7 +79,11 @@ fn an_owned_slot_keeps_its_page(rt: HostRuntime) {
 /// The chain ends before the slots, and its pages end with them.
 #[test]
 fn the_last_slots_that_walks_found_let_their_pages_end(rt: HostRuntime) {
-    let (setting, left, _) = left_by(&rt, "owned 0*33; counts", "pulled 0+ 0+; calls 64 resets 0 drops 0");
+    let (setting, left, _) = left_by(
+        &rt,
+        "owned 0*33; counts",
+        "pulled 0+ 0+; calls 64 resets 0 drops 0",
+    );
     let mut owned = left.owned;
     if let Some(item) = owned.pop() {
         item.slot.free();

@@ -43,17 +43,13 @@ pub fn left_by(
     let refusals = Refusals::new();
     let setting = asked_again!(rt, refusals, Setting::new(rt.alloc(), NEVER));
     let chain = asked_again!(rt, refusals, opened(rt.alloc(), &setting));
-    let player = asked_again!(
-        rt,
-        refusals,
-        PagePlayer::new(rt.alloc(), &chain, &setting)
-    );
-    let mut again = Again {
-        player,
-        refusals: &refusals,
+    let player = asked_again!(rt, refusals, PagePlayer::new(rt.alloc(), &chain, &setting));
+    let left = {
+        let refusals = &refusals;
+        let mut again = Again { player, refusals };
+        assert_equal(rt, first_difference(&mut again, commands, answers), None);
+        again.player.held.left().expect(rt, "memory is left")
     };
-    assert_equal(rt, first_difference(&mut again, commands, answers), None);
-    let left = again.player.held.left().expect(rt, "memory is left");
     drop(chain);
     (setting, left, refusals)
 }
@@ -124,7 +120,11 @@ impl<'c> Game for PageGame<'c> {
             let word = dice.word_of(&OF_ITEMS);
             return Command {
                 word,
-                numbers: [dice.below(self.model.items.held.len()), dice.below(1_000_000), 0],
+                numbers: [
+                    dice.below(self.model.items.held.len()),
+                    dice.below(1_000_000),
+                    0,
+                ],
             };
         }
         // mostly the last pages, which have free items

@@ -129,10 +129,7 @@ fn grown<'c>(page: &LinkedPage<'c>, setting: &Setting) -> Result<LinkedPage<'c>,
 }
 
 /// What a walk from a page came to.
-fn walked<S: Drop>(
-    page: usize,
-    came: Result<(S, usize), PullError>,
-) -> Result<Of<S>, PullError> {
+fn walked<S: Drop>(page: usize, came: Result<(S, usize), PullError>) -> Result<Of<S>, PullError> {
     let (slot, passed) = came?;
     let page = page.wrapping_add(passed);
     Ok(Of { page, slot })
@@ -223,9 +220,13 @@ impl<'c> PagePlayer<'c> {
             "take" => self.hold_of(number, page.page().alloc()),
             "try" => self.hold_of(number, tried(page.page())),
             "walk" => self.held.borrow(walked(number, page.alloc(&make))),
-            "walk_within" => self.held.borrow(walked(number, page.alloc_within(most, &make))),
+            "walk_within" => self
+                .held
+                .borrow(walked(number, page.alloc_within(most, &make))),
             "owned" => self.held.own(walked(number, page.alloc_owned(&make))),
-            "owned_within" => self.held.own(walked(number, page.alloc_owned_within(most, &make))),
+            "owned_within" => self
+                .held
+                .own(walked(number, page.alloc_owned_within(most, &make))),
             "next" => match page.next() {
                 Some((next, _)) => self.know(next),
                 None => Said::of("none"),
