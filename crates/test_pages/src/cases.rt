@@ -94,7 +94,7 @@ fn the_last_slots_that_walks_found_let_their_pages_end(rt: HostRuntime) {
 }
 
 #[test]
-fn a_returned_value_comes_again(rt: HostRuntime) {
+fn a_freed_value_comes_again(rt: HostRuntime) {
     drop(plays(
         &rt,
         "take 0; take 0; write 0 9; after 1; again 0; give 0; pair 0",
