@@ -5,29 +5,10 @@ use crate::setting::{Setting, refused};
 use pool_parts::PullError;
 use std::alloc::{AllocError, Global};
 use std::mem;
-use std::process::Abort;
 use std::sync::Arc;
 
-/// An item, however it was pulled.
-pub trait Pulled: Drop {
-    /// An item that borrows the pool.
-    type Borrowed: Drop;
-
-    /// An item that owns the pool.
-    type Owned: Drop;
-
-    fn of_borrowed(item: Self::Borrowed) -> Self;
-
-    fn of_owned(item: Self::Owned) -> Self;
-
-    fn is_owned(&self) -> bool;
-
-    /// The item that owns the pool. One that borrows it comes back.
-    fn into_owned(self) -> Option<Self::Owned>;
-
-    /// Its number in its pool.
-    fn number(&self) -> usize;
-
+/// An item that can be held.
+pub trait Item: Drop {
     /// The number of its page, and its own in the page.
     fn place(&self) -> (usize, usize);
 
@@ -37,92 +18,77 @@ pub trait Pulled: Drop {
 
     /// Returns it by a call, not by its drop.
     fn give(self);
+
+    /// Its number in its pool.
+    fn number(&self) -> usize {
+        let (page, id) = self.place();
+        page.wrapping_mul(32).wrapping_add(id)
+    }
 }
 
-/// Says how items are asked for their number, their page, their number in the page and their value,
-/// and how they are returned, for an enum of two kinds, `Borrowed` and `Owned`.
-#[macro_export]
-macro_rules! held_items {
-    ($life:lifetime, $kind:ty, $borrowed:ty, $owned:ty, $item:ident,
-        $number:expr, $page:expr, $id:expr, $value:expr, $give:expr) => {
-        impl<$life> $crate::held::Pulled for $kind {
-            type Borrowed = $borrowed;
-            type Owned = $owned;
+/// An item, however it was pulled.
+#[derive(Drop)]
+pub enum Pulled<B, O> {
+    /// It borrows the pool.
+    Borrowed(B),
+    /// It owns the pool.
+    Owned(O),
+}
 
-            fn of_borrowed(item: $borrowed) -> Self {
-                Self::Borrowed(item)
-            }
-
-            fn of_owned(item: $owned) -> Self {
-                Self::Owned(item)
-            }
-
-            fn is_owned(&self) -> bool {
-                matches!(self, Self::Owned(_))
-            }
-
-            fn into_owned(self) -> Option<$owned> {
-                match self {
-                    Self::Borrowed(_) => None,
-                    Self::Owned(item) => Some(item),
-                }
-            }
-
-            fn number(&self) -> usize {
-                match self {
-                    Self::Borrowed($item) => $number,
-                    Self::Owned($item) => $number,
-                }
-            }
-
-            fn place(&self) -> (usize, usize) {
-                match self {
-                    Self::Borrowed($item) => ($page, $id as usize),
-                    Self::Owned($item) => ($page, $id as usize),
-                }
-            }
-
-            fn value(&self) -> usize {
-                match self {
-                    Self::Borrowed($item) => $value,
-                    Self::Owned($item) => $value,
-                }
-            }
-
-            fn write(&mut self, value: usize) {
-                match self {
-                    Self::Borrowed($item) => $value = value,
-                    Self::Owned($item) => $value = value,
-                }
-            }
-
-            fn give(self) {
-                match self {
-                    Self::Borrowed($item) => drop($give),
-                    Self::Owned($item) => drop($give),
-                }
-            }
+impl<B: Item, O: Item> Item for Pulled<B, O> {
+    fn place(&self) -> (usize, usize) {
+        match self {
+            Pulled::Borrowed(item) => item.place(),
+            Pulled::Owned(item) => item.place(),
         }
-    };
+    }
+
+    fn value(&self) -> usize {
+        match self {
+            Pulled::Borrowed(item) => item.value(),
+            Pulled::Owned(item) => item.value(),
+        }
+    }
+
+    fn write(&mut self, value: usize) {
+        match self {
+            Pulled::Borrowed(item) => item.write(value),
+            Pulled::Owned(item) => item.write(value),
+        }
+    }
+
+    fn give(self) {
+        match self {
+            Pulled::Borrowed(item) => item.give(),
+            Pulled::Owned(item) => item.give(),
+        }
+    }
+
+    fn number(&self) -> usize {
+        match self {
+            Pulled::Borrowed(item) => item.number(),
+            Pulled::Owned(item) => item.number(),
+        }
+    }
 }
 
 /// The items that are held, oldest first.
 #[derive(Drop)]
-pub struct Held<I, O> {
-    items: Vec<I>,
+pub struct Held<B, O> {
+    items: Vec<Pulled<B, O>>,
     /// Room for the owned items that are left at the end.
     owned: Vec<O>,
     /// How many items were forgotten, which stay out for good.
     forgotten: usize,
 }
 
-impl<O: Drop, I: Pulled<Owned = O>> Held<I, O> {
+impl<B: Item, O: Item> Held<B, O> {
     /// Creates a list of no item, with room for so many.
     ///
     /// # Errors
     ///
     /// `Memory`.
-    pub fn new(alloc: Global, room: usize) -> Result<Held<I, O>, PullError> {
+    pub fn new(alloc: Global, room: usize) -> Result<Held<B, O>, PullError> {
         Ok(Held {
             items: Vec::with_capacity(alloc, room)?,
             owned: Vec::with_capacity(alloc, room)?,
@@ -131,9 +97,9 @@ impl<O: Drop, I: Pulled<Owned = O>> Held<I, O> {
     }
 
     /// Holds what borrows the pool.
-    pub fn borrow(&mut self, pulled: Result<I::Borrowed, PullError>) -> Said {
+    pub fn borrow(&mut self, pulled: Result<B, PullError>) -> Said {
         match pulled {
-            Ok(item) => self.hold(I::of_borrowed(item)),
+            Ok(item) => self.hold(Pulled::Borrowed(item)),
             Err(cause) => refused(cause),
         }
     }
@@ -141,12 +107,12 @@ impl<O: Drop, I: Pulled<Owned = O>> Held<I, O> {
     /// Holds what owns the pool.
     pub fn own(&mut self, pulled: Result<O, PullError>) -> Said {
         match pulled {
-            Ok(item) => self.hold(I::of_owned(item)),
+            Ok(item) => self.hold(Pulled::Owned(item)),
             Err(cause) => refused(cause),
         }
     }
 
-    fn hold(&mut self, item: I) -> Said {
+    fn hold(&mut self, item: Pulled<B, O>) -> Said {
         let said = Said::of("pulled").and(item.number()).and(item.value());
         match self.items.push(item) {
             Ok(()) => said,
@@ -155,12 +121,12 @@ impl<O: Drop, I: Pulled<Owned = O>> Held<I, O> {
     }
 
     /// The item at an index.
-    pub fn item(&mut self, index: usize) -> Option<&mut I> {
+    pub fn item(&mut self, index: usize) -> Option<&mut Pulled<B, O>> {
         self.items.get_mut(index)
     }
 
     /// Takes the item at an index.
-    pub fn take(&mut self, index: usize) -> Option<I> {
+    pub fn take(&mut self, index: usize) -> Option<Pulled<B, O>> {
         if self.items.len() <= index {
             return None;
         }
@@ -191,24 +157,24 @@ impl<O: Drop, I: Pulled<Owned = O>> Held<I, O> {
         }
     }
 
-    fn leave(&mut self, word: &'static str, item: I) -> Said {
-        match word {
-            "give" => {
+    fn leave(&mut self, word: &'static str, item: Pulled<B, O>) -> Said {
+        match (word, item) {
+            ("give", item) => {
                 item.give();
                 Said::of("returned")
             }
-            "forget" if !item.is_owned() => {
+            ("forget", Pulled::Borrowed(item)) => {
                 mem::forget(item);
                 self.forgotten = self.forgotten.wrapping_add(1);
                 Said::of("forgotten")
             }
-            _ => {
+            ("drop", item) => {
                 drop(item);
-                Said::of(if word == "drop" {
-                    "dropped"
-                } else {
-                    "returned"
-                })
+                Said::of("dropped")
+            }
+            (_, item) => {
+                drop(item);
+                Said::of("returned")
             }
         }
     }
@@ -225,7 +191,7 @@ impl<O: Drop, I: Pulled<Owned = O>> Held<I, O> {
             forgotten,
         } = self;
         for item in items {
-            if let Some(item) = item.into_owned() {
+            if let Pulled::Owned(item) = item {
                 owned.push(item)?;
             }
         }
@@ -241,16 +207,16 @@ pub struct Left<O> {
 }
 
 impl<O: Drop> Left<O> {
-    /// They come back, the last ones that own the pool. Nothing more is dropped before the last of
-    /// them, and then all but what was forgotten, `init` and the reset too.
-    pub fn ends(self, rt: &impl Abort, setting: &Arc<Setting>) {
+    /// They come back, the last ones that own the pool. Returns whether nothing more was dropped
+    /// before the last of them, and then all but what was forgotten, `init` and the reset too.
+    pub fn ends(self, setting: &Arc<Setting>) -> bool {
         let Left { owned, forgotten } = self;
         let living = setting.tally.living();
+        let mut stood = true;
         for item in owned {
-            assert_eq!(*rt; setting.tally.living(), living);
+            stood = stood && setting.tally.living() == living;
             drop(item);
         }
-        let left = (setting.tally.living(), Arc::strong_count(setting));
-        assert_eq!(*rt; left, (forgotten, 1));
+        stood && setting.tally.living() == forgotten && Arc::strong_count(setting) == 1
     }
 }

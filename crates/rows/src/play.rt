@@ -1,7 +1,7 @@
 //! How a pool is played with, beside its model.
-use crate::game::{Beside, PlainModel, Trial, failing_list};
-use crate::row::{Player, first_difference};
-use std::process::Abort;
+use crate::game::{Beside, PlainModel, Trial, Unfair, failing_list};
+use crate::row::{Command, Difference, Player, first_difference};
+use std::alloc::{AllocError, Global};
 
 /// What is played.
 #[derive(Clone, Copy)]
@@ -15,27 +15,41 @@ pub enum Play<'a> {
     Turns(&'a [(&'static str, usize, usize)]),
 }
 
-/// Plays it, and ends the test where an answer isn't as it has to be. Of a game it shows the shortest
-/// list of commands that was found to fail.
+/// Where an answer isn't as it has to be.
+#[derive(Debug, Drop)]
+pub enum Found {
+    Row(Difference),
+    /// The shortest list of commands of the game of this seed that was found to fail.
+    Game(u64, Vec<Command>),
+    Turn(Unfair),
+}
+
+/// Plays it. Returns what was found, if anything was.
+///
+/// # Errors
+///
+/// If memory for a game's list is refused.
 pub fn perform<P: Player, M: PlainModel>(
-    rt: &(impl Abort + AllocGlobal),
+    alloc: Global,
     game: &mut Beside<P, M>,
     what: Play<'_>,
     trial: &impl Trial,
-) {
+) -> Result<Option<Found>, AllocError> {
     match what {
         Play::Row(commands, answers) => {
-            assert_eq!(*rt; first_difference(game, commands, answers), None);
+            Ok(first_difference(game, commands, answers).map(Found::Row))
         }
         Play::Game(seed, steps) => {
-            let failing = failing_list(rt.alloc(), game, (seed, steps), trial);
-            let failing = failing.expect(rt, "memory is left");
-            assert!(*rt; failing.is_none(), "seed {seed}: {failing:?}");
+            let failing = failing_list(alloc, game, (seed, steps), trial)?;
+            Ok(failing.map(|list| Found::Game(seed, list)))
         }
         Play::Turns(turns) => {
             for (word, first, count) in turns.iter().copied() {
-                assert_eq!(*rt; game.first_unfair(word, first, count), None);
+                if let Some(unfair) = game.first_unfair(word, first, count) {
+                    return Ok(Some(Found::Turn(unfair)));
+                }
             }
+            Ok(None)
         }
     }
 }

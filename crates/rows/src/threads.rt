@@ -1,7 +1,6 @@
 //! Threads that play rows at one table.
 use crate::row::{Difference, Player, first_difference};
 use std::alloc::{AllocError, Global};
-use std::process::Abort;
 use std::sync::Arc;
 use std::sync::atomic::AtomicUsize;
 use std::sync::atomic::Ordering::SeqCst;
@@ -63,16 +62,24 @@ pub fn joined<R: Threads>(rt: &R, started: Started) -> Option<Difference> {
 /// Commands and their answers.
 pub type Line = (&'static str, &'static str);
 
-/// One plays the first line alone, and the last one beside so many threads at a table.
-pub fn play_beside<T: Table + 'static, P: Player, R: Abort + AllocGlobal + Threads>(
+/// One plays the first line alone, and the last one beside so many threads at a table. Returns what
+/// was said otherwise than it was to be.
+///
+/// # Errors
+///
+/// If a thread isn't started.
+pub fn play_beside<T: Table + 'static, P: Player, R: Threads>(
     rt: &R,
+    alloc: Global,
     player: &mut P,
-    table: &Arc<T>,
-    threads: usize,
+    (table, threads): (&Arc<T>, usize),
     [first, last]: [Line; 2],
-) {
-    assert_eq!(*rt; first_difference(player, first.0, first.1), None);
-    let others = started(rt, rt.alloc(), table, threads).expect(rt, "each thread is started");
-    assert_eq!(*rt; first_difference(player, last.0, last.1), None);
-    assert_eq!(*rt; joined(rt, others), None);
+) -> Result<Option<Difference>, AllocError> {
+    let alone = first_difference(player, first.0, first.1);
+    if alone.is_some() {
+        return Ok(alone);
+    }
+    let others = started(rt, alloc, table, threads)?;
+    let beside = first_difference(player, last.0, last.1);
+    Ok(joined(rt, others).or(beside))
 }

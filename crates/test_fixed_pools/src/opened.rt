@@ -82,12 +82,13 @@ pub fn plays_with(rt: &(impl Abort + AllocGlobal), items: usize, what: Play<'_>)
     let setting = asked_again!(rt, refusals, Setting::new(alloc, NEVER));
     let pool = asked_again!(rt, refusals, opened(alloc, &setting, items));
     let mut game = asked_again!(rt, refusals, trial.game(&pool, &setting, &refusals));
-    perform(rt, &mut game, what, &trial);
+    let found = perform(alloc, &mut game, what, &trial).expect(rt, "memory is left");
+    assert!(*rt; found.is_none(), "{found:?}");
     assert_eq!(*rt; setting.tally.drops(), 0);
     let left = game.into_player().player.held.left();
     let left = left.expect(rt, "memory is left");
     drop(pool);
-    left.ends(rt, &setting);
+    assert!(*rt; left.ends(&setting));
     refusals
 }
 

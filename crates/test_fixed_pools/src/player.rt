@@ -9,7 +9,7 @@ use fixed_pools::fixed_object_pool::{Near, PoolNote};
 use fixed_pools::page::PullPass;
 use fixed_pools::{FixedObjectPool, FixedOwnedReusable, FixedReusable, PullError};
 use pool_parts::reusable::Reusable;
-use rows::held::Held;
+use rows::held::{Held, Item, Pulled};
 use rows::row::{Command, Player};
 use rows::said::Said;
 use rows::setting::{Makes, Resets, Setting, said_of_two};
@@ -24,25 +24,41 @@ type Borrowed<'p> = FixedReusable<'p, Tallied, Makes, Resets>;
 
 pub type Owned = FixedOwnedReusable<Tallied, Makes, Resets>;
 
-/// An item, however it was pulled.
-#[derive(Drop)]
-pub enum Item<'p> {
-    Borrowed(Borrowed<'p>),
-    Owned(Owned),
+impl Item for Borrowed<'_> {
+    fn place(&self) -> (usize, usize) {
+        (self.page_number(), self.page_id() as usize)
+    }
+
+    fn value(&self) -> usize {
+        self.number
+    }
+
+    fn write(&mut self, value: usize) {
+        self.number = value;
+    }
+
+    fn give(self) {
+        drop(self.give_back());
+    }
 }
 
-rows::held_items!(
-    'p,
-    Item<'p>,
-    Borrowed<'p>,
-    Owned,
-    item,
-    item.number(),
-    item.page_number(),
-    item.page_id(),
-    item.number,
-    item.give_back()
-);
+impl Item for Owned {
+    fn place(&self) -> (usize, usize) {
+        (self.page_number(), self.page_id() as usize)
+    }
+
+    fn value(&self) -> usize {
+        self.number
+    }
+
+    fn write(&mut self, value: usize) {
+        self.number = value;
+    }
+
+    fn give(self) {
+        drop(self.give_back());
+    }
+}
 
 /// Pulls by one pass.
 fn tried(pool: &Pool) -> Result<Borrowed<'_>, PullError> {
@@ -92,7 +108,11 @@ fn by_owner(pool: &Arc<Pool>, page: usize) -> Result<Owned, PullError> {
 
 /// Pulls by one more owner, and an item comes back. If the pull was refused, its owner pulls then
 /// by the note of the refusal.
-fn by_owner_after(pool: &Arc<Pool>, held: Item<'_>, page: usize) -> Result<Owned, PullError> {
+fn by_owner_after(
+    pool: &Arc<Pool>,
+    held: Pulled<Borrowed<'_>, Owned>,
+    page: usize,
+) -> Result<Owned, PullError> {
     let owner = Arc::try_clone(pool)?;
     let note = owner.note();
     let pulled = owner.pull_by_owner(page, note);
@@ -176,7 +196,7 @@ pub struct FixedPlayer<'p> {
     pool: &'p Arc<Pool>,
     setting: &'p Arc<Setting>,
     near: Near<'p, Tallied, Makes, Resets>,
-    pub held: Held<Item<'p>, Owned>,
+    pub held: Held<Borrowed<'p>, Owned>,
     /// What this player alone writes by `often`.
     pub mark: usize,
 }
@@ -202,8 +222,8 @@ impl<'p> FixedPlayer<'p> {
     fn after(&mut self, index: usize) -> Said {
         match self.held.item(index) {
             None => Said::of("not held"),
-            Some(Item::Owned(_)) => Said::of("not borrowed"),
-            Some(Item::Borrowed(item)) => {
+            Some(Pulled::Owned(_)) => Said::of("not borrowed"),
+            Some(Pulled::Borrowed(item)) => {
                 let pulled = tried_after(item);
                 self.held.borrow(pulled)
             }
@@ -216,8 +236,8 @@ impl<'p> FixedPlayer<'p> {
         match (command.word, self.held.take(index)) {
             (_, None) => Said::of("not held"),
             ("owner_after", Some(item)) => self.held.own(by_owner_after(self.pool, item, page)),
-            (_, Some(Item::Borrowed(item))) => self.held.borrow(tried_again(item)),
-            (_, Some(Item::Owned(item))) => self.held.own(by_owner_again(item, page)),
+            (_, Some(Pulled::Borrowed(item))) => self.held.borrow(tried_again(item)),
+            (_, Some(Pulled::Owned(item))) => self.held.own(by_owner_again(item, page)),
         }
     }
 

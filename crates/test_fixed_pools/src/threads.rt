@@ -58,7 +58,8 @@ fn plays_beside<R: Abort + AllocGlobal + Threads>(
     let shared = Arc::new(alloc, shared).expect(rt, "memory is left");
     let player = FixedPlayer::new(alloc, &shared.pool, &shared.setting, items);
     let mut player = player.expect(rt, "memory is left");
-    play_beside(rt, &mut player, &shared, threads, [first, last]);
+    let found = play_beside(rt, alloc, &mut player, (&shared, threads), [first, last]);
+    assert_eq!(*rt; found, Ok(None));
 }
 
 #[test]

@@ -83,12 +83,13 @@ pub fn plays_with(
     let pool = asked_again!(rt, refusals, opened(alloc, &setting, limit));
     let mut game = asked_again!(rt, refusals, trial.game(&pool, &setting, &refusals));
     for _ in 0..rounds {
-        perform(rt, &mut game, what, &trial);
+        let found = perform(alloc, &mut game, what, &trial).expect(rt, "memory is left");
+        assert!(*rt; found.is_none(), "{found:?}");
     }
     let left = game.into_player().player.held.left();
     let left = left.expect(rt, "memory is left");
     drop(pool);
-    left.ends(rt, &setting);
+    assert!(*rt; left.ends(&setting));
     refusals
 }
 

@@ -6,7 +6,7 @@
 use linear_pools::page::PullPass;
 use linear_pools::{LinearObjectPool, LinearOwnedReusable, LinearReusable, PullError};
 use pool_parts::reusable::Reusable;
-use rows::held::Held;
+use rows::held::{Held, Item, Pulled};
 use rows::row::{Command, Player};
 use rows::said::Said;
 use rows::setting::{Makes, Resets, Setting, said_of_two};
@@ -21,30 +21,46 @@ type Borrowed<'p> = LinearReusable<'p, Tallied, Makes, Resets>;
 
 pub type Owned = LinearOwnedReusable<Tallied, Makes, Resets>;
 
-/// An item, however it was pulled.
-#[derive(Drop)]
-pub enum Item<'p> {
-    Borrowed(Borrowed<'p>),
-    Owned(Owned),
-}
-
 /// The number of an item in its pool.
 fn number_of(page: usize, id: u8) -> usize {
     page.wrapping_mul(32).wrapping_add(id as usize)
 }
 
-rows::held_items!(
-    'p,
-    Item<'p>,
-    Borrowed<'p>,
-    Owned,
-    item,
-    number_of(item.page_number(), item.page_id()),
-    item.page_number(),
-    item.page_id(),
-    item.number,
-    item.give_back()
-);
+impl Item for Borrowed<'_> {
+    fn place(&self) -> (usize, usize) {
+        (self.page_number(), self.page_id() as usize)
+    }
+
+    fn value(&self) -> usize {
+        self.number
+    }
+
+    fn write(&mut self, value: usize) {
+        self.number = value;
+    }
+
+    fn give(self) {
+        drop(self.give_back());
+    }
+}
+
+impl Item for Owned {
+    fn place(&self) -> (usize, usize) {
+        (self.page_number(), self.page_id() as usize)
+    }
+
+    fn value(&self) -> usize {
+        self.number
+    }
+
+    fn write(&mut self, value: usize) {
+        self.number = value;
+    }
+
+    fn give(self) {
+        drop(self.give_back());
+    }
+}
 
 /// Pulls by a call that shows what it found in place of an item.
 fn tried(pool: &Pool) -> Result<Borrowed<'_>, PullError> {
@@ -102,7 +118,7 @@ fn pair(pool: &Pool) -> Result<(usize, usize), PullError> {
 pub struct LinearPlayer<'p> {
     pool: &'p Arc<Pool>,
     setting: &'p Arc<Setting>,
-    pub held: Held<Item<'p>, Owned>,
+    pub held: Held<Borrowed<'p>, Owned>,
     /// What this player alone writes by `often`.
     pub mark: usize,
 }
@@ -127,11 +143,11 @@ impl<'p> LinearPlayer<'p> {
     fn tell(&mut self, index: usize) -> Said {
         match self.held.item(index) {
             None => return Said::of("not held"),
-            Some(Item::Borrowed(item)) => {
+            Some(Pulled::Borrowed(item)) => {
                 let (mut note, known) = (item.note(), item.witness());
                 item.tell(&mut note, known);
             }
-            Some(Item::Owned(item)) => {
+            Some(Pulled::Owned(item)) => {
                 let (mut note, known) = (item.note(), item.witness());
                 item.tell(&mut note, known);
             }

@@ -53,7 +53,8 @@ fn plays_beside<R: Abort + AllocGlobal + Threads>(
     let shared = Arc::new(alloc, shared).expect(rt, "memory is left");
     let player = LinearPlayer::new(alloc, &shared.pool, &shared.setting, 0);
     let mut player = player.expect(rt, "memory is left");
-    play_beside(rt, &mut player, &shared, threads, [first, last]);
+    let found = play_beside(rt, alloc, &mut player, (&shared, threads), [first, last]);
+    assert_eq!(*rt; found, Ok(None));
 }
 
 #[test]

@@ -9,8 +9,8 @@ ghost use Rattle.std.specs.Prelude.{◌≤◌};
 use page_chain::linear_page::{Chain, LinearPage};
 use pool_parts::PullError;
 use pool_parts::clean::AnyValue;
-use pool_parts::page::{Allocated, OwnedSlot, Page, PageNote, PageSlot, PullPass};
-use rows::held::Held;
+use pool_parts::page::{Allocated, OwnedSlot, Page, PageSlot, PullPass};
+use rows::held::{Held, Item, Pulled};
 use rows::row::{Command, Player};
 use rows::said::Said;
 use rows::setting::{Setting, refused};
@@ -32,43 +32,47 @@ pub struct Of<S> {
     pub slot: S,
 }
 
-impl Of<Borrowed<'_>> {
-    fn free(self) -> PageNote<Tallied> {
-        Page::free(self.slot)
+impl Item for Of<Borrowed<'_>> {
+    fn place(&self) -> (usize, usize) {
+        (self.page, self.slot.id() as usize)
+    }
+
+    fn value(&self) -> usize {
+        self.slot.number
+    }
+
+    fn write(&mut self, value: usize) {
+        self.slot.number = value;
+    }
+
+    fn give(self) {
+        drop(Page::free(self.slot));
     }
 }
 
-impl Of<Owned> {
-    fn free(self) -> PageNote<Tallied> {
-        self.slot.free()
+impl Item for Of<Owned> {
+    fn place(&self) -> (usize, usize) {
+        (self.page, self.slot.id() as usize)
+    }
+
+    fn value(&self) -> usize {
+        self.slot.number
+    }
+
+    fn write(&mut self, value: usize) {
+        self.slot.number = value;
+    }
+
+    fn give(self) {
+        drop(self.slot.free());
     }
 }
-
-/// An item, however it was pulled.
-#[derive(Drop)]
-pub enum Item<'c> {
-    Borrowed(Of<Borrowed<'c>>),
-    Owned(Of<Owned>),
-}
-
-rows::held_items!(
-    'c,
-    Item<'c>,
-    Of<Borrowed<'c>>,
-    Of<Owned>,
-    item,
-    item.page.wrapping_mul(32).wrapping_add(item.slot.id() as usize),
-    item.page,
-    item.slot.id(),
-    item.slot.number,
-    item.free()
-);
 
 /// What a pull answers: an item's slot, that the page is full, or a refusal.
-type Pulled<'c> = Result<Option<Borrowed<'c>>, PullError>;
+type Answer<'c> = Result<Option<Borrowed<'c>>, PullError>;
 
 /// The answer of a page to a pull with evidence.
-fn tried<'c>(page: &'c Page<Tallied, AnyValue>) -> Pulled<'c> {
+fn tried<'c>(page: &'c Page<Tallied, AnyValue>) -> Answer<'c> {
     let pass = PullPass::new();
     match page.try_alloc(&pass)? {
         Allocated::Slot(slot) => Ok(Some(slot)),
@@ -77,7 +81,7 @@ fn tried<'c>(page: &'c Page<Tallied, AnyValue>) -> Pulled<'c> {
 }
 
 /// Frees an item of a page, which is pulled again by the note of its return.
-fn tried_again<'c>(slot: Borrowed<'c>) -> Pulled<'c> {
+fn tried_again<'c>(slot: Borrowed<'c>) -> Answer<'c> {
     let page = slot.page();
     let note = Page::free(slot);
     let pass = PullPass::new();
@@ -88,7 +92,7 @@ fn tried_again<'c>(slot: Borrowed<'c>) -> Pulled<'c> {
 }
 
 /// A pull by a note that was told what the holder of an item knows.
-fn tried_after<'c>(slot: &mut Borrowed<'c>) -> Pulled<'c> {
+fn tried_after<'c>(slot: &mut Borrowed<'c>) -> Answer<'c> {
     let page = slot.page();
     let mut note = page.note();
     page.tell(&mut note, slot.witness());
@@ -148,7 +152,7 @@ pub struct PagePlayer<'c> {
     alloc: Global,
     setting: &'c Setting,
     pages: Vec<LinkedPage<'c>>,
-    pub held: Held<Item<'c>, Of<Owned>>,
+    pub held: Held<Of<Borrowed<'c>>, Of<Owned>>,
 }
 
 impl<'c> PagePlayer<'c> {
@@ -170,7 +174,7 @@ impl<'c> PagePlayer<'c> {
     }
 
     /// Holds what a page gave.
-    fn hold_of(&mut self, page: usize, pulled: Pulled<'c>) -> Said {
+    fn hold_of(&mut self, page: usize, pulled: Answer<'c>) -> Said {
         match pulled {
             Ok(Some(slot)) => self.held.borrow(Ok(Of { page, slot })),
             Ok(None) => Said::of("full"),
@@ -246,8 +250,8 @@ impl<'c> PagePlayer<'c> {
     fn after(&mut self, index: usize) -> Said {
         match self.held.item(index) {
             None => Said::of("not held"),
-            Some(Item::Owned(_)) => Said::of("not borrowed"),
-            Some(Item::Borrowed(item)) => {
+            Some(Pulled::Owned(_)) => Said::of("not borrowed"),
+            Some(Pulled::Borrowed(item)) => {
                 let page = item.page;
                 let pulled = tried_after(&mut item.slot);
                 self.hold_of(page, pulled)
@@ -259,8 +263,8 @@ impl<'c> PagePlayer<'c> {
     fn again(&mut self, index: usize) -> Said {
         match self.held.take(index) {
             None => Said::of("not held"),
-            Some(Item::Borrowed(Of { page, slot })) => self.hold_of(page, tried_again(slot)),
-            Some(Item::Owned(_)) => Said::of("dropped"),
+            Some(Pulled::Borrowed(Of { page, slot })) => self.hold_of(page, tried_again(slot)),
+            Some(Pulled::Owned(_)) => Said::of("dropped"),
         }
     }
 }
