@@ -40,8 +40,8 @@ impl Read for Input<'_> {
     }
 }
 
-/// What a device takes: at most so many bytes a call, until its room is used up. Where it has a cause
-/// for that, it fails at its first write.
+/// What a device takes: at most so many bytes a call, until its room is used up. Where it has a
+/// cause for that, it fails at its first write.
 #[derive(Clone, Copy)]
 pub(super) struct Takes {
     pub(super) room: usize,
