@@ -18,6 +18,7 @@ const SECONDS: u64 = 90;
 
 /// How far the thread is that waits: its pull has begun, or its item is returned.
 const BEGUN: u32 = 1;
+
 const SERVED: u32 = 2;
 
 /// Waits for the item, for seconds or without a limit, and returns it.
@@ -46,6 +47,7 @@ fn let_begin(step: &AtomicU32, loads: u32) {
 
 /// How often a watcher looks at once, and then how often in all, a millisecond apart.
 const YIELDS: u32 = 1_000;
+
 const MOST_TURNS: u32 = 31_000;
 
 /// How often a thread that waits too long is freed.

@@ -21,6 +21,7 @@ use std::time::{Clock, Duration};
 use test_values::tally::{Tally, new_tally};
 
 type Lazy = LazyObjectPool<Item, Maker, Clears, AnyValue>;
+
 type LazyOwned = LazyOwnedReusable<Item, Maker, Clears, AnyValue>;
 
 /// A thread discards some of what it borrows.

@@ -63,6 +63,7 @@ const POOLS: [(&str, Pool); 3] = [
     ("fixed", Pool::Fixed),
     ("spin lock", Pool::SpinLock),
 ];
+
 const KINDS: [(&str, Kind); 3] = [
     ("numbers", Kind::Number),
     ("lists", Kind::List),
@@ -89,7 +90,11 @@ fn use_all<R: Print + AllocGlobal + Threads + Wait + Clock + Copy + Send + Sync 
     let counts = [
         ("fixed, an item for each thread", "pulls refused", refused),
         ("lazy, made by the closure of a pull", "made again", again),
-        ("lazy of 1 item, returned once to one that waits", "lost", lost),
+        (
+            "lazy of 1 item, returned once to one that waits",
+            "lost",
+            lost,
+        ),
     ];
     for (pool, what, count) in counts {
         is_good &= matches!(count, Ok(0));

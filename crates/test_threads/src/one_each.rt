@@ -15,6 +15,7 @@ use std::thread::Threads;
 const THREADS: usize = 8;
 
 type Fixed = FixedObjectPool<u32, Copied<u32, AnyValue>, Copied<u32, AnyValue>, AnyValue>;
+
 type Lazy = LazyObjectPool<u32, Copied<u32, AnyValue>, Keep>;
 
 /// What the threads share.
@@ -73,8 +74,9 @@ fn refused_to_all<P: Pulls + 'static, R: Threads>(
     let mut threads = Vec::with_capacity(alloc, THREADS)?;
     for _ in 0..THREADS {
         let shared = Arc::try_clone(shared)?;
-        let thread = thread::spawn(rt, move || refusals(&*shared, rounds))
-            .map_err(|_| PullError::Memory)?;
+        let thread = thread::spawn(rt, move || refusals(&*shared, rounds)).map_err(
+            |_| PullError::Memory,
+        )?;
         threads.push(thread)?;
     }
     let mut refused = 0usize;

@@ -38,13 +38,18 @@ const LINEAR_ITEMS: usize = PAGES * PAGE_ITEMS;
 const MOST_PULLS: usize = 2 * LINEAR_ITEMS;
 
 type Linear = LinearObjectPool<Item, Maker, Clears, AnyValue>;
+
 type LinearOwned = LinearOwnedReusable<Item, Maker, Clears, AnyValue>;
+
 type Fixed = FixedObjectPool<Item, Maker, Clears, AnyValue>;
+
 type FixedOwned = FixedOwnedReusable<Item, Maker, Clears, AnyValue>;
 
 /// What a stack pool keeps.
 type StackedItems = MadeOrReset<Maker, Clears, AnyValue>;
+
 type Stack<F> = StackObjectPool<Item, Maker, Clears, AnyValue, F>;
+
 type StackOwned<F, W> = StackReusable<Item, Arc<Stack<F>>, W>;
 
 /// The pools that are used with each kind of item.
@@ -149,8 +154,9 @@ pub(crate) fn eight_threads<
         let (sender, receiver) = (sender.clone()?, receiver.clone()?);
         let worker = Worker::new(alloc, number + 1, sender, receiver);
         let (pool, there) = (Arc::try_clone(pool)?, *rt);
-        let thread = thread::spawn(rt, move || P::work(&pool, &there, worker, rounds))
-            .map_err(|_| PullError::Memory)?;
+        let thread = thread::spawn(rt, move || P::work(&pool, &there, worker, rounds)).map_err(
+            |_| PullError::Memory,
+        )?;
         threads.push(thread)?;
     }
     Ok(threads)
