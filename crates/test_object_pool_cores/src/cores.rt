@@ -1,13 +1,13 @@
 //! Rows of commands to cores with one owner, and to players on them.
-mod core;
 mod linear;
 mod made_whole;
+mod opening;
 mod pages;
 mod player;
 mod refused;
 mod stack_and_fresh;
 
-use self::core::Core;
+use self::opening::Core;
 use crate::values::{AMPLE, Limit, Memory, Text, new_setting, plays};
 use object_pool_cores::sequential::{Player, SequentialPool};
 use player::{CorePlayer, Held};

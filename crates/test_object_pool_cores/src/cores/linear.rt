@@ -1,5 +1,5 @@
 //! Rows of the linear core.
-use super::core::Linear;
+use super::opening::Linear;
 use super::{by_calls, by_player, on_both};
 use crate::values::AMPLE;
 

@@ -1,6 +1,6 @@
 //! Each call of `init` for a page may refuse: what was made is dropped then.
-use super::core::{Core, Linear};
 use super::on_both;
+use super::opening::{Core, Linear};
 use crate::assert_equal::assert_equal;
 use object_pool_cores::interleave::Prepared;
 use object_pool_cores::sequential::CorePage;

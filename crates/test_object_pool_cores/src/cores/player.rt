@@ -4,7 +4,7 @@
 //! their items came. The answer to a pull is `pulled`, the holder, the item's number if it has one,
 //! and its value. By `gather` steps are only gathered from then on, until `run` does those in one
 //! run that have no reply yet.
-use super::core::Core;
+use super::opening::Core;
 use crate::values::{number_or_none, numbered, said_of_setting};
 use object_pool_cores::sequential::{
     AttachError, Command as Step, Item, Player, Reply, RunError, SequentialPool,

@@ -1,6 +1,6 @@
 //! Rows where memory was refused: what is asked once more is answered as with memory, and no value
 //! is lost. Of an attach `refused` tells what was said where there was none for it.
-use super::core::{Fresh, Linear, Stack};
+use super::opening::{Fresh, Linear, Stack};
 use super::{by_calls, by_player};
 use crate::values::Memory;
 use rows::refusals::Refusals;

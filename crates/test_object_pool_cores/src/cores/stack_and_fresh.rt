@@ -1,6 +1,6 @@
 //! Rows of the stack core and of the core that keeps nothing.
-use super::core::{Fresh, Stack};
 use super::on_both;
+use super::opening::{Fresh, Stack};
 
 #[test]
 fn the_value_that_was_returned_last_comes_first(rt: HostRuntime) {
