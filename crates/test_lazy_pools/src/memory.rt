@@ -2,7 +2,8 @@
 use crate::items::{Pool, made, never};
 use crate::plays::{ends, pool_of};
 use lazy_pools::PullError;
-use pool_model::book::new_book;
+use pool_model::book::{Book, new_book};
+use pool_model::value::Value;
 use rows::asked_again;
 use rows::refusals::Refusals;
 use std::process::Abort;
@@ -22,8 +23,8 @@ fn a_pool_is_made_again_where_memory_was_refused(rt: HostRuntime) {
 }
 
 /// Pulls an item by each kind of pull that waits and makes by a closure, which fails, and drops what
-/// is kept.
-fn wait_and_clear<R: Abort + Wait + Clock>(rt: &R, pool: &Arc<Pool>) {
+/// is kept. Then it discards an item that a closure made.
+fn wait_and_clear<R: Abort + Wait + Clock>(rt: &R, pool: &Arc<Pool>, book: &Arc<Book>) {
     let time = Duration::from_millis(1);
     let refusals = [
         made(pool.pull_wait_with(rt, never)).err(),
@@ -38,6 +39,8 @@ fn wait_and_clear<R: Abort + Wait + Clock>(rt: &R, pool: &Arc<Pool>) {
     assert!(*rt; pool.pull_owned_timeout(rt, time).err() == Some(PullError::Limit));
     drop(held);
     pool.clear();
+    let made_here = made(pool.pull_with(|| Value::new(book).ok_or(PullError::Init)));
+    made_here.expect(rt, "a place is empty").discard();
     let init = Some(PullError::Init);
     assert!(*rt; refusals == [init, init, init, init, None, None, None]);
     assert!(*rt; (pool.waiting(), pool.in_use()) == (0, 0));
@@ -64,7 +67,7 @@ fn waits_and_clearings_of_a_lazy_pool_ask_for_no_memory(rt: HostRuntime) {
     let told = println!(rt; "from here on no memory is asked for");
     told.expect(&rt, "standard output is there");
     for _ in 0..3 {
-        wait_and_clear(&rt, &pool);
+        wait_and_clear(&rt, &pool, &book);
     }
     let end = close_beside_one(&rt, &pool);
     assert!(rt; end == (true, Some(PullError::Closed), 0));
