@@ -2,8 +2,8 @@
 //! kilobytes each, and what their pages take: about a kilobyte each.
 use crate::pulls::{Opens, StackedCore};
 use crate::supply::{Buffer, Supply};
-use crate::worlds::done;
-use crate::wrong::Wrong;
+use crate::turns::done;
+use crate::wrong::{Wrong, expect};
 use lockfree_object_pool::clean::{AnyValue, Empty};
 use lockfree_object_pool::closures::{Clear, Copied, Keep, WithCapacity};
 use lockfree_object_pool::page::PAGE_ITEMS;
@@ -18,28 +18,18 @@ use test_values::peak_memory::peak_virtual_kilobytes;
 
 /// What opens together, or grows. What one lets go, the next may use. So what has the most beside
 /// its pages, the agents of a world, comes last.
-pub const NAMES: [&str; 12] = [
-    "opening 100 linear cores",
-    "opening 100 stack cores",
-    "opening 100 players",
-    "opening 100 worlds",
-    "opening 100 linear pools",
-    "opening 100 fixed pools",
-    "opening 100 buffer pools",
-    "opening a lazy pool of 10,000 buffers",
-    "a byte in each of 100 buffers",
-    "1000 pages of a linear core",
-    "1000 pages of a linear pool",
-    "1000 pages of a world",
-];
+pub const NAMES: &str = "opening 100 linear cores; opening 100 stack cores; opening 100 players; \
+    opening 100 worlds; opening 100 linear pools; opening 100 fixed pools; \
+    opening 100 buffer pools; opening a lazy pool of 10,000 buffers; \
+    a byte in each of 100 buffers; 1000 pages of a linear core; \
+    1000 pages of a linear pool; 1000 pages of a world";
 
-/// How many of a kind open, and stay open together. The names tell it too.
+/// How many of a kind open, and stay open together, how many pages there are in the end, and how
+/// many items these have. The names tell it too.
 const OPENINGS: usize = 100;
 
-/// How many pages there are in the end. The names tell it too.
 const PAGES: usize = 1_000;
 
-/// How many items these pages have.
 const ITEMS: usize = PAGES * PAGE_ITEMS;
 
 /// What makes the items.
@@ -49,21 +39,17 @@ type Pool = LinearObjectPool<u32, Zeros, Keep>;
 
 pub type Fixed = FixedObjectPool<u32, Zeros, Keep>;
 
-/// Its buffers have 4,096 bytes each.
-type Lazy = LazyObjectPool<Vec<u8>, WithCapacity, Clear, Empty>;
-
 type Buffers = BufferPool<WithCapacity, Clear>;
 
 type Core = LinearCore<u32, Zeros, Keep, AnyValue>;
 
 type Agents = World<u32, Keep>;
 
+/// Its buffers have 4,096 bytes each.
+type Lazy = LazyObjectPool<Vec<u8>, WithCapacity, Clear, Empty>;
+
 /// Does what has this name, and lets all go. Returns how many kilobytes the process ever had
 /// before.
-///
-/// # Errors
-///
-/// `Wrong` where a call answered what it should not, or the process's memory isn't told.
 pub fn grow<R: Files + AllocGlobal>(rt: &R, supply: &Supply, name: &str) -> Result<u64, Wrong> {
     let before = peak_virtual_kilobytes(rt)?;
     match name {
@@ -148,11 +134,7 @@ fn all_grow(supply: &Supply) -> Result<(), Wrong> {
 
 /// Makes the values of a page.
 fn zeros(alloc: Global) -> Result<Prepared<u32>, PullError> {
-    Prepared::make(alloc, &zero)
-}
-
-fn zero() -> Option<u32> {
-    Some(0)
+    Prepared::make(alloc, &|| Some(0))
 }
 
 /// Each item of a core is pulled and never returned.
@@ -161,7 +143,7 @@ fn core_grows(supply: &Supply) -> Result<(), Wrong> {
     for _ in 0..ITEMS {
         drop(core.pull()?);
     }
-    expect_pages(core.pages())
+    expect("pages were made", core.pages(), PAGES)
 }
 
 /// Each item of a pool is pulled and forgotten.
@@ -171,14 +153,6 @@ fn pool_grows(supply: &Supply) -> Result<(), Wrong> {
         mem::forget(pool.pull()?);
     }
     Ok(())
-}
-
-fn expect_pages(pages: usize) -> Result<(), Wrong> {
-    if pages == PAGES {
-        Ok(())
-    } else {
-        Err(Wrong::Pages(pages))
-    }
 }
 
 /// The agent that links the pages. Those before it take an item each.
@@ -201,7 +175,7 @@ fn world_grows(alloc: Global, mut world: Agents) -> Result<(), Wrong> {
         }
         take(&mut world, agent, agent / PAGE_ITEMS)?;
     }
-    expect_pages(world.pages())
+    expect("pages were made", world.pages(), PAGES)
 }
 
 /// An agent takes an item of a page, to which a hint leads it.

@@ -17,18 +17,32 @@ use lockfree_object_pool::{
 use object_pool_cores::sequential::{
     Item, LinearCore, NoneCore, Player, SequentialPool, StackCore,
 };
-use std::alloc::Global;
 use std::ops::DerefMut;
 use std::sync::{Arc, Wait};
+
+/// How many items a fixed pool opens with: a word of them and one more.
+pub const FIXED_ITEMS: usize = 33;
 
 pub type Linear = LinearObjectPool<Buffer, Supply, Keep>;
 
 pub type Fixed = FixedObjectPool<Buffer, Supply, Keep>;
 
-/// How many items a fixed pool opens with: a word of them and one more.
-pub const FIXED_ITEMS: usize = 33;
-
 pub type Lazy = LazyObjectPool<Buffer, Supply, Keep>;
+
+pub type Mutexed = MutexObjectPool<Buffer, Supply, KeepEmpty>;
+
+pub type SpinLocked = SpinLockObjectPool<Buffer, Supply, KeepEmpty>;
+
+pub type PagedCore = LinearCore<Buffer, Supply, Keep, AnyValue>;
+
+pub type StackedCore = StackCore<Buffer, Supply, Keep, AnyValue>;
+
+pub type FreshCore = NoneCore<Buffer, Supply>;
+
+/// The mutex pool and the spin lock pool are one pool over two kinds of list, and keep such values.
+type Stack<F> = StackObjectPool<Buffer, Supply, KeepEmpty, AnyValue, F>;
+
+type KeptBuffers = MadeOrReset<Supply, KeepEmpty, AnyValue>;
 
 /// A reset that rejects buffers that aren't empty.
 #[derive(Drop)]
@@ -45,21 +59,6 @@ impl Reset<Buffer, AnyValue> for KeepEmpty {
         buffer.bytes.is_empty().then_some(buffer)
     }
 }
-
-/// What the mutex pool and the spin lock pool keep. They are one pool over two kinds of list.
-type KeptBuffers = MadeOrReset<Supply, KeepEmpty, AnyValue>;
-
-pub type Stack<F> = StackObjectPool<Buffer, Supply, KeepEmpty, AnyValue, F>;
-
-pub type Mutexed = MutexObjectPool<Buffer, Supply, KeepEmpty>;
-
-pub type SpinLocked = SpinLockObjectPool<Buffer, Supply, KeepEmpty>;
-
-pub type PagedCore = LinearCore<Buffer, Supply, Keep, AnyValue>;
-
-pub type StackedCore = StackCore<Buffer, Supply, Keep, AnyValue>;
-
-pub type FreshCore = NoneCore<Buffer, Supply>;
 
 /// A pool of one owner, from which items are pulled as from the others.
 #[derive(Drop)]
@@ -147,22 +146,23 @@ pub trait Pulls<W> {
     }
 }
 
-/// Pulls so many items.
-///
-/// # Errors
-///
-/// As the pulls, and `Memory`.
-pub fn hold<P: Pulls<W>, W>(
-    rt: &W,
-    alloc: Global,
-    items: usize,
-    pool: &mut P,
-) -> Result<Vec<P::Item>, PullError> {
-    let mut held = Vec::with_capacity(alloc, items)?;
-    for _ in 0..items {
-        held.push(pool.pull_one(rt)?)?;
+/// What is done, so often or with so many, by items of a supply.
+#[derive(Drop)]
+pub struct Work<'a, W> {
+    pub rt: &'a W,
+    pub supply: &'a Supply,
+    pub count: usize,
+}
+
+impl<W> Work<'_, W> {
+    /// Pulls so many items.
+    pub fn hold<P: Pulls<W>>(&self, items: usize, pool: &mut P) -> Result<Vec<P::Item>, PullError> {
+        let mut held = Vec::with_capacity(self.supply.alloc, items)?;
+        for _ in 0..items {
+            held.push(pool.pull_one(self.rt)?)?;
+        }
+        Ok(held)
     }
-    Ok(held)
 }
 
 impl<'p, W> Pulls<W> for &'p Linear {
@@ -247,11 +247,8 @@ impl<F: FreeList<Buffer, KeptBuffers>, W: Wait + Copy> Pulls<W> for Arc<Stack<F>
         drop(self.pull(rt)?.detach());
         let lent = StackReusable::new(rt, &**self, supply.buffer()?);
         let owned = StackReusable::new(rt, Arc::try_clone(self)?, supply.buffer()?);
-        if lent.is_ok() && owned.is_ok() {
-            Ok(())
-        } else {
-            Err(PullError::Memory)
-        }
+        let are_attached = lent.is_ok() && owned.is_ok();
+        are_attached.then_some(()).ok_or(PullError::Memory)
     }
 }
 
@@ -264,7 +261,7 @@ impl<P: SequentialPool<Buffer>, W> Pulls<W> for Alone<P> {
 
     fn give_one(&mut self, item: Item<Buffer>) -> Result<(), Wrong> {
         if !self.0.is_mine(&item) {
-            return Err(Wrong::NotOwn);
+            return Err(Wrong::Seen("another pool's item", item.number));
         }
         self.0.give(item);
         Ok(())

@@ -1,6 +1,6 @@
 //! What makes the buffers of the pools, each with another number: as many as it is told to make,
 //! and then none. What is asked for is refused then.
-use crate::wrong::Wrong;
+use crate::wrong::{Wrong, expect};
 use lockfree_object_pool::PullError;
 use lockfree_object_pool::clean::AnyValue;
 use lockfree_object_pool::closures::Init;
@@ -35,10 +35,6 @@ pub struct Supply {
 
 impl Supply {
     /// Creates a supply that has no end. Its numbers begin at 0.
-    ///
-    /// # Errors
-    ///
-    /// `Memory`.
     pub fn new(alloc: Global) -> Result<Supply, PullError> {
         let counts = Counts {
             made: AtomicUsize::new(0),
@@ -49,10 +45,6 @@ impl Supply {
     }
 
     /// Returns the same supply for one more.
-    ///
-    /// # Errors
-    ///
-    /// `Memory`.
     pub fn share(&self) -> Result<Supply, PullError> {
         Ok(Supply {
             alloc: self.alloc,
@@ -66,26 +58,13 @@ impl Supply {
     }
 
     /// Makes a buffer, if one is left.
-    ///
-    /// # Errors
-    ///
-    /// `Init`.
     pub fn buffer(&self) -> Result<Buffer, PullError> {
         self.make().ok_or(PullError::Init)
     }
 
     /// Checks that so many buffers were made.
-    ///
-    /// # Errors
-    ///
-    /// `Wrong` tells how many were.
     pub fn expect_made(&self, buffers: usize) -> Result<(), Wrong> {
-        let made = self.counts.made.load(SeqCst);
-        if made == buffers {
-            Ok(())
-        } else {
-            Err(Wrong::Made(made))
-        }
+        expect("items were made", self.counts.made.load(SeqCst), buffers)
     }
 }
 

@@ -1,4 +1,5 @@
-//! What may not be seen of a pool, or of the process's memory.
+//! What may not be seen of a pool, or of the process's memory. Whatever is done here answers so
+//! where a call answers what it should not.
 use lockfree_object_pool::PullError;
 use object_pool_cores::sequential::RunError;
 use std::alloc::{AllocError, AllocFailed};
@@ -11,26 +12,14 @@ pub enum Wrong {
     Refused(#[from] PullError),
     #[error("a player's call was refused: {0}")]
     Run(#[from] RunError),
-    #[error("a call was not refused as it should be")]
-    NotRefused,
-    #[error("an item came twice, or with a value that it should not have: {0}")]
-    Value(usize),
-    #[error("{0} items were made")]
-    Made(usize),
-    #[error("{0} pages were made")]
-    Pages(usize),
-    #[error("an item is not the pool's own")]
-    NotOwn,
-    #[error("pull {0} has another number")]
-    Number(usize),
-    #[error("turn {0} has another reply")]
-    Reply(usize),
-    #[error("a step of a page or a world has another answer")]
-    Step,
-    #[error("{0} kB are taken or kept")]
-    Kilobytes(u64),
     #[error("the process's memory is not told: {0}")]
     Untold(#[from] io::Error),
+    #[error("a call was not refused as it should be")]
+    NotRefused,
+    #[error("{0}: {1}")]
+    Seen(&'static str, usize),
+    #[error("{0} kB are taken or kept")]
+    Kilobytes(u64),
     #[error("there is none, or none of this size")]
     Unknown,
 }
@@ -48,13 +37,18 @@ impl<X: Drop> From<AllocFailed<X>> for Wrong {
 }
 
 /// Looks at an answer that has to be a refusal for this cause.
-///
-/// # Errors
-///
-/// `NotRefused` if it is another one.
 pub fn refused<X: Drop>(answer: Result<X, PullError>, cause: PullError) -> Result<(), Wrong> {
     match answer {
         Err(found) if found == cause => Ok(()),
         _ => Err(Wrong::NotRefused),
+    }
+}
+
+/// Looks at a number that has to be this one.
+pub fn expect(what: &'static str, seen: usize, wanted: usize) -> Result<(), Wrong> {
+    if seen == wanted {
+        Ok(())
+    } else {
+        Err(Wrong::Seen(what, seen))
     }
 }
