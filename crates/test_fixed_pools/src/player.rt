@@ -24,39 +24,50 @@ type Borrowed<'p> = FixedReusable<'p, Tallied, Makes, Resets>;
 
 pub type Owned = FixedOwnedReusable<Tallied, Makes, Resets>;
 
-impl Item for Borrowed<'_> {
+/// An item that is held.
+#[derive(Drop)]
+pub struct Of<S> {
+    item: S,
+}
+
+/// Names what was pulled as an item.
+fn of<S: Drop>(pulled: Result<S, PullError>) -> Result<Of<S>, PullError> {
+    Ok(Of { item: pulled? })
+}
+
+impl Item for Of<Borrowed<'_>> {
     fn place(&self) -> (usize, usize) {
-        (self.page_number(), self.page_id() as usize)
+        (self.item.page_number(), self.item.page_id() as usize)
     }
 
     fn value(&self) -> usize {
-        self.number
+        self.item.number
     }
 
     fn write(&mut self, value: usize) {
-        self.number = value;
+        self.item.number = value;
     }
 
     fn give(self) {
-        drop(self.give_back());
+        drop(self.item.give_back());
     }
 }
 
-impl Item for Owned {
+impl Item for Of<Owned> {
     fn place(&self) -> (usize, usize) {
-        (self.page_number(), self.page_id() as usize)
+        (self.item.page_number(), self.item.page_id() as usize)
     }
 
     fn value(&self) -> usize {
-        self.number
+        self.item.number
     }
 
     fn write(&mut self, value: usize) {
-        self.number = value;
+        self.item.number = value;
     }
 
     fn give(self) {
-        drop(self.give_back());
+        drop(self.item.give_back());
     }
 }
 
@@ -110,7 +121,7 @@ fn by_owner(pool: &Arc<Pool>, page: usize) -> Result<Owned, PullError> {
 /// by the note of the refusal.
 fn by_owner_after(
     pool: &Arc<Pool>,
-    held: Pulled<Borrowed<'_>, Owned>,
+    held: Pulled<Of<Borrowed<'_>>, Of<Owned>>,
     page: usize,
 ) -> Result<Owned, PullError> {
     let owner = Arc::try_clone(pool)?;
@@ -196,7 +207,7 @@ pub struct FixedPlayer<'p> {
     pool: &'p Arc<Pool>,
     setting: &'p Arc<Setting>,
     near: Near<'p, Tallied, Makes, Resets>,
-    pub held: Held<Borrowed<'p>, Owned>,
+    pub held: Held<Of<Borrowed<'p>>, Of<Owned>>,
     /// What this player alone writes by `often`.
     pub mark: usize,
 }
@@ -223,9 +234,9 @@ impl<'p> FixedPlayer<'p> {
         match self.held.item(index) {
             None => Said::of("not held"),
             Some(Pulled::Owned(_)) => Said::of("not borrowed"),
-            Some(Pulled::Borrowed(item)) => {
+            Some(Pulled::Borrowed(Of { item })) => {
                 let pulled = tried_after(item);
-                self.held.borrow(pulled)
+                self.held.borrow(of(pulled))
             }
         }
     }
@@ -235,9 +246,9 @@ impl<'p> FixedPlayer<'p> {
         let [index, page, _] = command.numbers;
         match (command.word, self.held.take(index)) {
             (_, None) => Said::of("not held"),
-            ("owner_after", Some(item)) => self.held.own(by_owner_after(self.pool, item, page)),
-            (_, Some(Pulled::Borrowed(item))) => self.held.borrow(tried_again(item)),
-            (_, Some(Pulled::Owned(item))) => self.held.own(by_owner_again(item, page)),
+            ("owner_after", Some(item)) => self.held.own(of(by_owner_after(self.pool, item, page))),
+            (_, Some(Pulled::Borrowed(Of { item }))) => self.held.borrow(of(tried_again(item))),
+            (_, Some(Pulled::Owned(Of { item }))) => self.held.own(of(by_owner_again(item, page))),
         }
     }
 
@@ -279,12 +290,12 @@ impl<'p> Player for FixedPlayer<'p> {
         let [first, second, _] = command.numbers;
         let pool = self.pool;
         match command.word {
-            "pull" => self.held.borrow(pool.pull()),
-            "near" => self.held.borrow(pool.pull_near(first)),
-            "here" => self.held.borrow(self.near.pull()),
-            "try" => self.held.borrow(tried(pool)),
-            "owned" => self.held.own(pool.pull_owned()),
-            "owner" => self.held.own(by_owner(pool, first)),
+            "pull" => self.held.borrow(of(pool.pull())),
+            "near" => self.held.borrow(of(pool.pull_near(first))),
+            "here" => self.held.borrow(of(self.near.pull())),
+            "try" => self.held.borrow(of(tried(pool))),
+            "owned" => self.held.own(of(pool.pull_owned())),
+            "owner" => self.held.own(of(by_owner(pool, first))),
             "place" => {
                 self.near = pool.near();
                 Said::of("at page").and(self.near.page_number())

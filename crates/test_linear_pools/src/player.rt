@@ -26,39 +26,50 @@ fn number_of(page: usize, id: u8) -> usize {
     page.wrapping_mul(32).wrapping_add(id as usize)
 }
 
-impl Item for Borrowed<'_> {
+/// An item that is held.
+#[derive(Drop)]
+pub struct Of<S> {
+    item: S,
+}
+
+/// Names what was pulled as an item.
+fn of<S: Drop>(pulled: Result<S, PullError>) -> Result<Of<S>, PullError> {
+    Ok(Of { item: pulled? })
+}
+
+impl Item for Of<Borrowed<'_>> {
     fn place(&self) -> (usize, usize) {
-        (self.page_number(), self.page_id() as usize)
+        (self.item.page_number(), self.item.page_id() as usize)
     }
 
     fn value(&self) -> usize {
-        self.number
+        self.item.number
     }
 
     fn write(&mut self, value: usize) {
-        self.number = value;
+        self.item.number = value;
     }
 
     fn give(self) {
-        drop(self.give_back());
+        drop(self.item.give_back());
     }
 }
 
-impl Item for Owned {
+impl Item for Of<Owned> {
     fn place(&self) -> (usize, usize) {
-        (self.page_number(), self.page_id() as usize)
+        (self.item.page_number(), self.item.page_id() as usize)
     }
 
     fn value(&self) -> usize {
-        self.number
+        self.item.number
     }
 
     fn write(&mut self, value: usize) {
-        self.number = value;
+        self.item.number = value;
     }
 
     fn give(self) {
-        drop(self.give_back());
+        drop(self.item.give_back());
     }
 }
 
@@ -118,7 +129,7 @@ fn pair(pool: &Pool) -> Result<(usize, usize), PullError> {
 pub struct LinearPlayer<'p> {
     pool: &'p Arc<Pool>,
     setting: &'p Arc<Setting>,
-    pub held: Held<Borrowed<'p>, Owned>,
+    pub held: Held<Of<Borrowed<'p>>, Of<Owned>>,
     /// What this player alone writes by `often`.
     pub mark: usize,
 }
@@ -143,11 +154,11 @@ impl<'p> LinearPlayer<'p> {
     fn tell(&mut self, index: usize) -> Said {
         match self.held.item(index) {
             None => return Said::of("not held"),
-            Some(Pulled::Borrowed(item)) => {
+            Some(Pulled::Borrowed(Of { item })) => {
                 let (mut note, known) = (item.note(), item.witness());
                 item.tell(&mut note, known);
             }
-            Some(Pulled::Owned(item)) => {
+            Some(Pulled::Owned(Of { item })) => {
                 let (mut note, known) = (item.note(), item.witness());
                 item.tell(&mut note, known);
             }
@@ -188,10 +199,10 @@ impl<'p> Player for LinearPlayer<'p> {
         let [written, _, _] = command.numbers;
         let pool = self.pool;
         match command.word {
-            "pull" => self.held.borrow(pool.pull()),
-            "try" => self.held.borrow(tried(pool)),
-            "again" => self.held.borrow(tried_again(pool)),
-            "owned" => self.held.own(pool.pull_owned()),
+            "pull" => self.held.borrow(of(pool.pull())),
+            "try" => self.held.borrow(of(tried(pool))),
+            "again" => self.held.borrow(of(tried_again(pool))),
+            "owned" => self.held.own(of(pool.pull_owned())),
             "reset_first" => said_of_two("reset", reset_first(pool, written)),
             "pair" => said_of_two("two", pair(pool)),
             "often" => self.often(written),
