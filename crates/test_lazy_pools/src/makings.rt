@@ -77,15 +77,3 @@ fn what_is_in_use_is_counted(rt: HostRuntime) {
          made 40 1 0; pulled _ _; made 70 70 0; left; left; made 70 1 0",
     );
 }
-
-/// Past what 18 bits count.
-#[test]
-fn each_of_262_145_items_comes_once_a_round(rt: HostRuntime) {
-    plays(
-        &rt,
-        262_145,
-        "pull*262145; pull; return 0+*262145; pull*262145; pull; stands; counts",
-        "pulled 0+ 0+; refused limit; left; pulled _ _; refused limit; made 262145 262145 0; \
-         counts 262145 262145 0",
-    );
-}
