@@ -31,7 +31,7 @@ pub struct Of<S> {
 }
 
 /// Names what was pulled as an item.
-fn of<S: Drop>(pulled: Result<S, PullError>) -> Result<Of<S>, PullError> {
+fn wrapped<S: Drop>(pulled: Result<S, PullError>) -> Result<Of<S>, PullError> {
     Ok(Of { item: pulled? })
 }
 
@@ -236,7 +236,7 @@ impl<'p> FixedPlayer<'p> {
             Some(Pulled::Owned(_)) => Said::of("not borrowed"),
             Some(Pulled::Borrowed(Of { item })) => {
                 let pulled = tried_after(item);
-                self.held.borrow(of(pulled))
+                self.held.borrow(wrapped(pulled))
             }
         }
     }
@@ -246,9 +246,15 @@ impl<'p> FixedPlayer<'p> {
         let [index, page, _] = command.numbers;
         match (command.word, self.held.take(index)) {
             (_, None) => Said::of("not held"),
-            ("owner_after", Some(item)) => self.held.own(of(by_owner_after(self.pool, item, page))),
-            (_, Some(Pulled::Borrowed(Of { item }))) => self.held.borrow(of(tried_again(item))),
-            (_, Some(Pulled::Owned(Of { item }))) => self.held.own(of(by_owner_again(item, page))),
+            ("owner_after", Some(item)) => self
+                .held
+                .own(wrapped(by_owner_after(self.pool, item, page))),
+            (_, Some(Pulled::Borrowed(Of { item }))) => self
+                .held
+                .borrow(wrapped(tried_again(item))),
+            (_, Some(Pulled::Owned(Of { item }))) => self
+                .held
+                .own(wrapped(by_owner_again(item, page))),
         }
     }
 
@@ -290,12 +296,12 @@ impl<'p> Player for FixedPlayer<'p> {
         let [first, second, _] = command.numbers;
         let pool = self.pool;
         match command.word {
-            "pull" => self.held.borrow(of(pool.pull())),
-            "near" => self.held.borrow(of(pool.pull_near(first))),
-            "here" => self.held.borrow(of(self.near.pull())),
-            "try" => self.held.borrow(of(tried(pool))),
-            "owned" => self.held.own(of(pool.pull_owned())),
-            "owner" => self.held.own(of(by_owner(pool, first))),
+            "pull" => self.held.borrow(wrapped(pool.pull())),
+            "near" => self.held.borrow(wrapped(pool.pull_near(first))),
+            "here" => self.held.borrow(wrapped(self.near.pull())),
+            "try" => self.held.borrow(wrapped(tried(pool))),
+            "owned" => self.held.own(wrapped(pool.pull_owned())),
+            "owner" => self.held.own(wrapped(by_owner(pool, first))),
             "place" => {
                 self.near = pool.near();
                 Said::of("at page").and(self.near.page_number())

@@ -33,7 +33,7 @@ pub struct Of<S> {
 }
 
 /// Names what was pulled as an item.
-fn of<S: Drop>(pulled: Result<S, PullError>) -> Result<Of<S>, PullError> {
+fn wrapped<S: Drop>(pulled: Result<S, PullError>) -> Result<Of<S>, PullError> {
     Ok(Of { item: pulled? })
 }
 
@@ -199,10 +199,10 @@ impl<'p> Player for LinearPlayer<'p> {
         let [written, _, _] = command.numbers;
         let pool = self.pool;
         match command.word {
-            "pull" => self.held.borrow(of(pool.pull())),
-            "try" => self.held.borrow(of(tried(pool))),
-            "again" => self.held.borrow(of(tried_again(pool))),
-            "owned" => self.held.own(of(pool.pull_owned())),
+            "pull" => self.held.borrow(wrapped(pool.pull())),
+            "try" => self.held.borrow(wrapped(tried(pool))),
+            "again" => self.held.borrow(wrapped(tried_again(pool))),
+            "owned" => self.held.own(wrapped(pool.pull_owned())),
             "reset_first" => said_of_two("reset", reset_first(pool, written)),
             "pair" => said_of_two("two", pair(pool)),
             "often" => self.often(written),
