@@ -10,13 +10,25 @@ use std::mem;
 
 pub type Pool = LazyObjectPool<Value, Closures, Closures>;
 
+type Borrowed<'p> = LazyReusable<'p, Value, Closures, Closures>;
+
 pub type Owned = LazyOwnedReusable<Value, Closures, Closures>;
 
 /// An item that is held.
 #[derive(Drop)]
 pub enum Item<'p> {
-    Borrowed(LazyReusable<'p, Value, Closures, Closures>),
+    Borrowed(Borrowed<'p>),
     Owned(Owned),
+}
+
+/// What a pull of a borrowed item came to.
+pub fn borrowed<'p>(pulled: Result<Borrowed<'p>, PullError>) -> Result<Item<'p>, PullError> {
+    Ok(Item::Borrowed(pulled?))
+}
+
+/// What a pull of an owned item came to.
+pub fn owned<'p>(pulled: Result<Owned, PullError>) -> Result<Item<'p>, PullError> {
+    Ok(Item::Owned(pulled?))
 }
 
 impl<'p> Item<'p> {

@@ -12,7 +12,7 @@
 //! look 2 of it, with 1,000 milliseconds between two looks, say `then_return 0 1000 2` and its like;
 //! look 0 is the closure of the next call. `refuse`, `allow`, `reject` and `accept` say what closures
 //! do from then on, `shut` and `open` whether resets wait.
-use crate::items::{Item, Owned, Pool, made, tried};
+use crate::items::{Item, Owned, Pool, borrowed, made, owned, tried};
 use crate::watch::{Looks, TIME, Watch, wait_until};
 use lazy_pools::PullError;
 use lazy_pools::near::Near;
@@ -105,15 +105,15 @@ impl<'p, R: Wait + Clock> LazyPlayer<'p, R> {
         let (watch, time) = (&self.watch, Duration::from_millis(TIME as u64));
         watch.begin();
         let pulled = match word {
-            "pull" => pool.pull().map(Item::Borrowed),
-            "near" => self.near.pull().map(Item::Borrowed),
+            "pull" => borrowed(pool.pull()),
+            "near" => borrowed(self.near.pull()),
             "try" => tried(pool),
-            "owned" => pool.pull_owned().map(Item::Owned),
-            "wait" => pool.pull_wait(rt).map(Item::Borrowed),
-            "owned_wait" => pool.pull_owned_wait(rt).map(Item::Owned),
-            "timed" => pool.pull_timeout(watch, time).map(Item::Borrowed),
-            "long_timed" => pool.pull_timeout(watch, Duration::MAX).map(Item::Borrowed),
-            _ => pool.pull_owned_timeout(watch, time).map(Item::Owned),
+            "owned" => owned(pool.pull_owned()),
+            "wait" => borrowed(pool.pull_wait(rt)),
+            "owned_wait" => owned(pool.pull_owned_wait(rt)),
+            "timed" => borrowed(pool.pull_timeout(watch, time)),
+            "long_timed" => borrowed(pool.pull_timeout(watch, Duration::MAX)),
+            _ => owned(pool.pull_owned_timeout(watch, time)),
         };
         self.hold(pulled)
     }
@@ -128,13 +128,13 @@ impl<'p, R: Wait + Clock> LazyPlayer<'p, R> {
         let make = move || watch.make(owner);
         watch.begin();
         let pulled = match word {
-            "with" => made(pool.pull_with(make)).map(Item::Borrowed),
-            "owned_with" => made(pool.pull_owned_with(make)).map(Item::Owned),
-            "wait_with" => made(pool.pull_wait_with(rt, make)).map(Item::Borrowed),
-            "owned_wait_with" => made(pool.pull_owned_wait_with(rt, make)).map(Item::Owned),
-            "timed_with" => made(pool.pull_timeout_with(watch, time, make)).map(Item::Borrowed),
-            "real_with" => made(pool.pull_timeout_with(rt, real, make)).map(Item::Borrowed),
-            _ => made(pool.pull_owned_timeout_with(watch, time, make)).map(Item::Owned),
+            "with" => borrowed(made(pool.pull_with(make))),
+            "owned_with" => owned(made(pool.pull_owned_with(make))),
+            "wait_with" => borrowed(made(pool.pull_wait_with(rt, make))),
+            "owned_wait_with" => owned(made(pool.pull_owned_wait_with(rt, make))),
+            "timed_with" => borrowed(made(pool.pull_timeout_with(watch, time, make))),
+            "real_with" => borrowed(made(pool.pull_timeout_with(rt, real, make))),
+            _ => owned(made(pool.pull_owned_timeout_with(watch, time, make))),
         };
         self.hold(pulled)
     }
@@ -144,7 +144,7 @@ impl<'p, R: Wait + Clock> LazyPlayer<'p, R> {
         let Watch { rt, pool, .. } = self.watch;
         self.watch.begin();
         let time = Duration::from_millis(millis as u64);
-        let pulled = pool.pull_timeout(rt, time).map(Item::Borrowed);
+        let pulled = borrowed(pool.pull_timeout(rt, time));
         let is_timely = match self.watch.took() {
             Some(took) => time <= took && took < time.saturating_add(Duration::from_secs(20)),
             None => false,

@@ -4,7 +4,7 @@
 //! A timed pull of a full pool looks at it once before it counts as waiting, and then between each
 //! try and its sleep. What is to happen at one of these looks happens there, in the same thread; what
 //! is to happen at look 0, in the closure of the next call.
-use crate::items::{Item, Pool, made, never};
+use crate::items::{Item, Pool, borrowed, made, never};
 use lazy_pools::PullError;
 use pool_model::book::Book;
 use pool_model::value::Value;
@@ -131,7 +131,7 @@ impl<'p, R: Wait + Clock> Watch<'p, R> {
             ("then_fill", _) => drop(self.pool.fill(clock.number)),
             ("then_swap", Some(item)) => {
                 item.leave("reset_first");
-                self.swapped.set(self.pool.pull().ok().map(Item::Borrowed));
+                self.swapped.set(borrowed(self.pool.pull()).ok());
             }
             ("then_discard" | "then_late", Some(item)) => item.leave("discard"),
             (_, item) => drop(item),
