@@ -82,32 +82,38 @@ fn spin_lock(rt: &impl Abort, alloc: Global) -> Counted<SpinLockPool> {
     (Arc::new(alloc, pool).expect(rt, "memory is left"), calls)
 }
 
-/// A pool of numbers that threads share, and whose owned items are sent.
-trait Shared<A, W>: Send + Sync + Drop {
+/// A pool of numbers, whose owned items are sent.
+trait Sends<A, W> {
     fn pull_to_send(owner: &Arc<Self>, rt: &W) -> Result<A, PullError>;
-
-    /// Writes a number to an item of the pool, and sends the number that it reads.
-    fn write_and_send(&self, rt: &W, number: u32, to: &Sender<u32>) -> bool;
 }
 
-impl<W: Wait> Shared<OwnedZero, W> for Linear {
+impl<W: Wait> Sends<OwnedZero, W> for Linear {
     fn pull_to_send(owner: &Arc<Linear>, _rt: &W) -> Result<OwnedZero, PullError> {
         owner.pull_owned()
-    }
-
-    fn write_and_send(&self, rt: &W, number: u32, to: &Sender<u32>) -> bool {
-        read_and_sent(rt, self.pull(), number, to)
     }
 }
 
 type StackZero<F, W> = StackReusable<u32, Arc<Stack<F>>, W>;
 
-impl<F: FreeList<u32, ZeroValues> + Send + Sync, W: Wait + Copy> Shared<StackZero<F, W>, W>
-    for Stack<F> {
+impl<F: FreeList<u32, ZeroValues>, W: Wait + Copy> Sends<StackZero<F, W>, W> for Stack<F> {
     fn pull_to_send(owner: &Arc<Stack<F>>, rt: &W) -> Result<StackZero<F, W>, PullError> {
         owner.pull_owned(rt)
     }
+}
 
+/// A pool of numbers that threads share.
+trait Writes<W>: Send + Sync + Drop {
+    /// Writes a number to an item of the pool, and sends the number that it reads.
+    fn write_and_send(&self, rt: &W, number: u32, to: &Sender<u32>) -> bool;
+}
+
+impl<W: Wait> Writes<W> for Linear {
+    fn write_and_send(&self, rt: &W, number: u32, to: &Sender<u32>) -> bool {
+        read_and_sent(rt, self.pull(), number, to)
+    }
+}
+
+impl<F: FreeList<u32, ZeroValues> + Send + Sync, W: Wait + Copy> Writes<W> for Stack<F> {
     fn write_and_send(&self, rt: &W, number: u32, to: &Sender<u32>) -> bool {
         read_and_sent(rt, self.pull(rt), number, to)
     }
@@ -131,7 +137,7 @@ fn read_and_sent<A: DerefMut<Target = u32> + Drop, W: Wait>(
 /// Sends five items, each with a 7, to another thread, which drops them.
 fn send_five<
     A: DerefMut<Target = u32> + Send + Drop + 'static,
-    P: Shared<A, R>,
+    P: Sends<A, R>,
     R: Abort + Threads + Wait + Copy + Send + 'static,
 >(rt: &R, alloc: Global, pool: &Arc<P>) {
     let (sender, receiver) = unbounded(alloc).expect(rt, "a channel is made");
@@ -187,11 +193,11 @@ fn owned_items_of_stack_pools_are_sent_and_come_home(rt: HostRuntime) {
 }
 
 /// Five threads share the pool, and each sends its number.
-fn five_send<
-    A,
-    P: Shared<A, R> + 'static,
-    R: Abort + Threads + Wait + Copy + Send + Sync + 'static,
->(rt: &R, alloc: Global, pool: &Arc<P>) {
+fn five_send<P: Writes<R> + 'static, R: Abort + Threads + Wait + Copy + Send + Sync + 'static>(
+    rt: &R,
+    alloc: Global,
+    pool: &Arc<P>,
+) {
     let (sender, receiver) = unbounded(alloc).expect(rt, "a channel is made");
     let mut threads = Vec::with_capacity(alloc, 5).expect(rt, "memory is left");
     for number in 0..5u32 {
