@@ -11,7 +11,7 @@ use rows::dice::Dice;
 use rows::game::{Game, Trial, failing_list, replayed};
 use rows::held::Left;
 use rows::refusals::{Again, Refusals};
-use rows::row::{Command, Player, first_difference};
+use rows::row::{Command, Difference, Player, Row};
 use rows::said::Said;
 use rows::setting::Setting;
 use std::alloc::Global;
@@ -33,6 +33,18 @@ fn ends(rt: &impl Abort, setting: &Setting, left: Left<Of<Owned>>) {
     assert_equal(rt, left, (forgotten, forgotten.wrapping_add(1)));
 }
 
+/// Plays a row, as `first_difference` does by one whose type names one lifetime.
+fn difference<P: Player>(player: &mut P, mut row: Row) -> Option<Difference> {
+    for _ in 0..u64::MAX {
+        let Some(command) = row.next_command() else {
+            break;
+        };
+        let said = player.play(command);
+        row.hear(said);
+    }
+    row.difference()
+}
+
 /// Plays a row with a new chain, which ends then. Returns what made its values, the owned slots
 /// that are left of it, and what was met of refused memory.
 pub fn left_by(
@@ -47,7 +59,11 @@ pub fn left_by(
     let left = {
         let refusals = &refusals;
         let mut again = Again { player, refusals };
-        assert_equal(rt, first_difference(&mut again, commands, answers), None);
+        assert_equal(
+            rt,
+            difference(&mut again, Row::new(commands, answers)),
+            None,
+        );
         again.player.held.left().expect(rt, "memory is left")
     };
     drop(chain);

@@ -2,6 +2,7 @@
 //! `ci/refuse_memory` refuses each of its requests in turn, and fails where one comes after that
 //! line. Before it, a request that is refused ends the test.
 use crate::stack_player::{Kind, Opened, StackPlayer, UnderMutex, UnderSpinLock};
+use crate::values::{Part, Value};
 use none_pools::NoneObjectPool;
 use pool_parts::clean::AnyValue;
 use pool_parts::closures::{Copied, Keep};
@@ -19,7 +20,7 @@ fn is_ready(rt: &(impl Abort + Print)) {
 }
 
 /// Plays a row without memory on a pool that keeps 48 values, if there was memory for that.
-fn plays<F: Kind, W: Abort + AllocGlobal + Print + Wait + Copy>(
+fn plays<F: Kind<Value, Part, Part>, W: Abort + AllocGlobal + Print + Wait + Copy>(
     rt: W,
     (commands, answers): (&'static str, &'static str),
 ) {

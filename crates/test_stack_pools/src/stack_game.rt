@@ -157,7 +157,7 @@ impl Model {
 
 /// A pool's player and its model.
 #[derive(Drop)]
-struct StackGame<'p, F: Kind, W: Wait + Copy> {
+struct StackGame<'p, F: Kind<Value, Part, Part>, W: Wait + Copy> {
     player: StackPlayer<'p, F, W>,
     model: Model,
     /// The most values that are made by one command.
@@ -171,7 +171,7 @@ fn command(word: &'static str, first: usize, second: usize) -> Command {
     }
 }
 
-impl<F: Kind, W: Wait + Copy> StackGame<'_, F, W> {
+impl<F: Kind<Value, Part, Part>, W: Wait + Copy> StackGame<'_, F, W> {
     /// Draws an item that is held, among the last ones.
     fn drawn_item(&self, dice: &mut Dice) -> usize {
         let held = self.model.held.len();
@@ -229,7 +229,7 @@ impl<F: Kind, W: Wait + Copy> StackGame<'_, F, W> {
 }
 
 /// Begins a game on a pool.
-fn begun<'p, F: Kind, W: Wait + Copy>(
+fn begun<'p, F: Kind<Value, Part, Part>, W: Wait + Copy>(
     rt: W,
     alloc: Global,
     (opened, refusals): (&'p Opened<F>, &'p Refusals),
@@ -249,7 +249,7 @@ struct StackTrial<F, W> {
     list: PhantomData<F>,
 }
 
-impl<F: Kind, W: Wait + Copy> StackTrial<F, W> {
+impl<F: Kind<Value, Part, Part>, W: Wait + Copy> StackTrial<F, W> {
     /// Whether a list has an answer that isn't the model's.
     fn is_unfair(&self, list: &[Command]) -> Result<bool, PullError> {
         let (opened, refusals) = (Opened::<F>::new(self.alloc, None)?, Refusals::new());
@@ -258,7 +258,7 @@ impl<F: Kind, W: Wait + Copy> StackTrial<F, W> {
     }
 }
 
-impl<F: Kind, W: Wait + Copy> Trial for StackTrial<F, W> {
+impl<F: Kind<Value, Part, Part>, W: Wait + Copy> Trial for StackTrial<F, W> {
     fn fails(&self, list: &[Command]) -> bool {
         matches!(self.is_unfair(list), Ok(true))
     }
@@ -266,7 +266,7 @@ impl<F: Kind, W: Wait + Copy> Trial for StackTrial<F, W> {
 
 /// Plays a game on a pool, and lets all items go. Returns the book of the model, which then ends,
 /// or the list that failed.
-fn played_on<F: Kind, W: Abort + Wait + Copy>(
+fn played_on<F: Kind<Value, Part, Part>, W: Abort + Wait + Copy>(
     rt: W,
     alloc: Global,
     opened: &Opened<F>,
@@ -288,7 +288,11 @@ fn played_on<F: Kind, W: Abort + Wait + Copy>(
 }
 
 /// Plays a game on a new pool, which then ends: what is left is dropped.
-fn plays<F: Kind, W: Abort + AllocGlobal + Wait + Copy>(rt: W, seed: u64, size: usize) {
+fn plays<F: Kind<Value, Part, Part>, W: Abort + AllocGlobal + Wait + Copy>(
+    rt: W,
+    seed: u64,
+    size: usize,
+) {
     let alloc = rt.alloc();
     let opened = Opened::<F>::new(alloc, None).expect(&rt, "memory is left");
     let model = match played_on(rt, alloc, &opened, (seed, size)) {

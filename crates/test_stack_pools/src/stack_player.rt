@@ -2,6 +2,7 @@
 use crate::values::{Book, Called, Part, Value};
 use pool_parts::PullError;
 use pool_parts::clean::AnyValue;
+use pool_parts::closures::{Init, Reset};
 use pool_parts::made_or_reset::MadeOrReset;
 use rows::refusals::Refusals;
 use rows::row::{Command, Difference, Row};
@@ -17,39 +18,53 @@ use std::alloc::Global;
 use std::sync::{Arc, Mutex, Wait};
 
 /// What a pool keeps.
-type Kept = MadeOrReset<Part, Part, AnyValue>;
+type Kept<I, R> = MadeOrReset<I, R, AnyValue>;
 
 pub type Pool<F> = StackObjectPool<Value, Part, Part, AnyValue, F>;
 
-pub type UnderMutex = Mutex<Stack<Value, Kept>>;
+pub type UnderMutex = Mutex<Stack<Value, Kept<Part, Part>>>;
 
-pub type UnderSpinLock = KeptStack<Value, Kept>;
+pub type UnderSpinLock = KeptStack<Value, Kept<Part, Part>>;
 
 /// A kind of stack pool, by its list.
-pub trait Kind: FreeList<Value, Kept> {
-    fn new_pool(alloc: Global, init: Part, reset: Part) -> Result<Pool<Self>, PullError>;
+pub trait Kind<T, I: Init<T, AnyValue>, R: Reset<T, AnyValue>>: FreeList<T, Kept<I, R>> {
+    fn new_pool(
+        alloc: Global,
+        init: I,
+        reset: R,
+    ) -> Result<StackObjectPool<T, I, R, AnyValue, Self>, PullError>;
 }
 
-impl Kind for UnderMutex {
-    fn new_pool(alloc: Global, init: Part, reset: Part) -> Result<Pool<Self>, PullError> {
+impl<T: Drop, I: Init<T, AnyValue>, R: Reset<T, AnyValue>> Kind<T, I, R>
+    for Mutex<Stack<T, Kept<I, R>>> {
+    fn new_pool(
+        alloc: Global,
+        init: I,
+        reset: R,
+    ) -> Result<StackObjectPool<T, I, R, AnyValue, Self>, PullError> {
         Ok(MutexObjectPool::new(alloc, init, reset))
     }
 }
 
-impl Kind for UnderSpinLock {
-    fn new_pool(alloc: Global, init: Part, reset: Part) -> Result<Pool<Self>, PullError> {
+impl<T: Drop, I: Init<T, AnyValue>, R: Reset<T, AnyValue>> Kind<T, I, R>
+    for KeptStack<T, Kept<I, R>> {
+    fn new_pool(
+        alloc: Global,
+        init: I,
+        reset: R,
+    ) -> Result<StackObjectPool<T, I, R, AnyValue, Self>, PullError> {
         SpinLockObjectPool::new(alloc, init, reset)
     }
 }
 
 /// A pool, and the book of its values.
 #[derive(Drop)]
-pub struct Opened<F: Kind> {
+pub struct Opened<F: Kind<Value, Part, Part>> {
     pub pool: Arc<Pool<F>>,
     pub book: Arc<Book>,
 }
 
-impl<F: Kind> Opened<F> {
+impl<F: Kind<Value, Part, Part>> Opened<F> {
     /// Opens a pool, one of whose calls may meet another thread.
     ///
     /// # Errors
@@ -70,12 +85,12 @@ impl<F: Kind> Opened<F> {
 
 /// An item, borrowed or owned.
 #[derive(Drop)]
-enum Item<'p, F: Kind, W: Wait + Copy> {
+enum Item<'p, F: Kind<Value, Part, Part>, W: Wait + Copy> {
     Borrowed(StackReusable<Value, &'p Pool<F>, W>),
     Owned(StackReusable<Value, Arc<Pool<F>>, W>),
 }
 
-impl<F: Kind, W: Wait + Copy> Item<'_, F, W> {
+impl<F: Kind<Value, Part, Part>, W: Wait + Copy> Item<'_, F, W> {
     fn value(&self) -> &Value {
         match self {
             Item::Borrowed(item) => item,
@@ -125,7 +140,7 @@ fn leave<P: SharedStackPool<Value>, W: Wait + Copy>(
 /// - `refuse CALL`: this call of `init`, from 0 on, makes nothing. `reject 1`, `zero 1`: `reset`
 ///   rejects what it gets, or leaves 0.
 #[derive(Drop)]
-pub struct StackPlayer<'p, F: Kind, W: Wait + Copy> {
+pub struct StackPlayer<'p, F: Kind<Value, Part, Part>, W: Wait + Copy> {
     pub rt: W,
     pub opened: &'p Opened<F>,
     refusals: &'p Refusals,
@@ -133,7 +148,7 @@ pub struct StackPlayer<'p, F: Kind, W: Wait + Copy> {
     held: Vec<Option<Item<'p, F, W>>>,
 }
 
-impl<'p, F: Kind, W: Wait + Copy> StackPlayer<'p, F, W> {
+impl<'p, F: Kind<Value, Part, Part>, W: Wait + Copy> StackPlayer<'p, F, W> {
     /// Creates a player that holds nothing. If it is owned, `pull` and `attach` are those of owned
     /// items.
     pub fn new(

@@ -1,6 +1,7 @@
 //! Worked cases of the mutex pool and the spin lock pool. Each is played on both, with borrowed
 //! items and with owned ones.
 use crate::stack_player::{Kind, Opened, StackPlayer, UnderMutex, UnderSpinLock};
+use crate::values::{Part, Value};
 use pool_parts::closures::{Copied, Keep};
 use rows::asked_again;
 use rows::refusals::Refusals;
@@ -12,7 +13,7 @@ use std::process::Abort;
 use std::sync::{Arc, Wait};
 
 /// Plays a row on new pools of a kind, which then end: all is dropped that was made.
-fn plays_on<F: Kind, W: Abort + AllocGlobal + Wait + Copy>(
+fn plays_on<F: Kind<Value, Part, Part>, W: Abort + AllocGlobal + Wait + Copy>(
     rt: W,
     refusals: &Refusals,
     (commands, answers): (&'static str, &'static str),
@@ -281,7 +282,7 @@ fn three_hundred_thousand_owned_items_are_kept(rt: HostRuntime) {
 }
 
 /// 70,000 values are attached to owned items that are held together, and come back.
-fn keeps_attached<F: Kind, W: Abort + AllocGlobal + Wait + Copy>(rt: W) {
+fn keeps_attached<F: Kind<Value, Part, Part>, W: Abort + AllocGlobal + Wait + Copy>(rt: W) {
     let opened = Opened::<F>::new(rt.alloc(), None).expect(&rt, "memory is left");
     let refusals = Refusals::new();
     let mut player = StackPlayer::new(rt, rt.alloc(), &opened, &refusals, true);
@@ -306,7 +307,7 @@ fn seventy_thousand_attached_items_are_kept(rt: HostRuntime) {
 }
 
 /// The pool's last owner is an item.
-fn ends_with_its_item<F: Kind, W: Abort + AllocGlobal + Wait + Copy>(rt: W) {
+fn ends_with_its_item<F: Kind<Value, Part, Part>, W: Abort + AllocGlobal + Wait + Copy>(rt: W) {
     let opened = Opened::<F>::new(rt.alloc(), None).expect(&rt, "memory is left");
     let Opened { pool, book } = opened;
     let item = pool.pull_owned(&rt).expect(&rt, "an item is made");

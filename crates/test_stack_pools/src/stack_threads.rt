@@ -1,7 +1,7 @@
 //! Threads that share one stack pool, or its list. Each runs to its end. Each call of a list waits
 //! for the lock that another thread holds, but a note doesn't.
 use crate::stack_player::{Kind, Opened, Pool, UnderMutex, UnderSpinLock};
-use crate::values::Called;
+use crate::values::{Called, Part, Value};
 use pool_parts::clean::AnyValue;
 use rows::threads::wait_for;
 use stack_pools::free_list::FreeList;
@@ -18,7 +18,11 @@ use std::thread::{JoinHandle, Threads};
 
 /// Pulls so many times, and returns each item at once, or clears the pool if there are no pulls.
 /// What was shown last, if no pull was refused.
-fn use_up<F: Kind, W: Wait + Copy>(rt: &W, pool: &Pool<F>, pulls: u32) -> Option<usize> {
+fn use_up<F: Kind<Value, Part, Part>, W: Wait + Copy>(
+    rt: &W,
+    pool: &Pool<F>,
+    pulls: u32,
+) -> Option<usize> {
     if pulls == 0 {
         pool.clear(rt);
     }
@@ -29,47 +33,24 @@ fn use_up<F: Kind, W: Wait + Copy>(rt: &W, pool: &Pool<F>, pulls: u32) -> Option
     shown
 }
 
-/// A kind whose pools threads share.
-trait Shared: Kind {
-    /// A thread that uses a pool.
-    fn use_elsewhere<W: Wait + Threads + Copy + Send + 'static>(
-        rt: W,
-        pool: &Arc<Pool<Self>>,
-        pulls: u32,
-    ) -> Option<JoinHandle<Option<usize>>>;
-}
-
-impl Shared for UnderMutex {
-    fn use_elsewhere<W: Wait + Threads + Copy + Send + 'static>(
-        rt: W,
-        pool: &Arc<Pool<Self>>,
-        pulls: u32,
-    ) -> Option<JoinHandle<Option<usize>>> {
-        let there = Arc::try_clone(pool).ok()?;
-        thread::spawn(&rt, move || use_up(&rt, &*there, pulls)).ok()
-    }
-}
-
-impl Shared for UnderSpinLock {
-    fn use_elsewhere<W: Wait + Threads + Copy + Send + 'static>(
-        rt: W,
-        pool: &Arc<Pool<Self>>,
-        pulls: u32,
-    ) -> Option<JoinHandle<Option<usize>>> {
-        let there = Arc::try_clone(pool).ok()?;
-        thread::spawn(&rt, move || use_up(&rt, &*there, pulls)).ok()
-    }
+/// A thread that uses a pool.
+fn use_elsewhere<
+    F: Kind<Value, Part, Part> + Send + Sync + 'static,
+    W: Wait + Threads + Copy + Send + 'static,
+>(rt: W, pool: &Arc<Pool<F>>, pulls: u32) -> Option<JoinHandle<Option<usize>>> {
+    let there = Arc::try_clone(pool).ok()?;
+    thread::spawn(&rt, move || use_up(&rt, &*there, pulls)).ok()
 }
 
 /// What is shown to a thread in whose pull or return another one pulls and returns, and to that
 /// one. Then what two pulls show that are held.
-fn shown_to_two<F: Shared, W: Abort + AllocGlobal + Wait + Threads + Copy + Send + 'static>(
-    rt: W,
-    place: Called,
-) -> [usize; 4] {
+fn shown_to_two<
+    F: Kind<Value, Part, Part> + Send + Sync + 'static,
+    W: Abort + AllocGlobal + Wait + Threads + Copy + Send + 'static,
+>(rt: W, place: Called) -> [usize; 4] {
     let opened = Opened::<F>::new(rt.alloc(), Some(place));
     let Opened { pool, book } = opened.expect(&rt, "memory is left");
-    let first = F::use_elsewhere(rt, &pool, 1).expect(&rt, "a thread is made");
+    let first = use_elsewhere(rt, &pool, 1).expect(&rt, "a thread is made");
     assert!(rt; wait_for(&book.came, 1));
     let meanwhile = use_up(&rt, &*pool, 1).expect(&rt, "an item is made");
     book.uses.fetch_add(1, SeqCst);
@@ -96,11 +77,14 @@ fn reset_runs_without_the_lock(rt: HostRuntime) {
 
 /// While a kept value is dropped, another thread counts what is kept and fills the pool. What comes
 /// so late is kept.
-fn clears<F: Shared, W: Abort + AllocGlobal + Wait + Threads + Copy + Send + 'static>(rt: W) {
+fn clears<
+    F: Kind<Value, Part, Part> + Send + Sync + 'static,
+    W: Abort + AllocGlobal + Wait + Threads + Copy + Send + 'static,
+>(rt: W) {
     let opened = Opened::<F>::new(rt.alloc(), Some(Called::Drop));
     let Opened { pool, book } = opened.expect(&rt, "memory is left");
     pool.fill(&rt, 1).expect(&rt, "a value is made");
-    let clearing = F::use_elsewhere(rt, &pool, 0).expect(&rt, "a thread is made");
+    let clearing = use_elsewhere(rt, &pool, 0).expect(&rt, "a thread is made");
     let dropping = (wait_for(&book.came, 1), pool.kept(&rt));
     pool.fill(&rt, 1).expect(&rt, "a value is made");
     book.uses.fetch_add(1, SeqCst);
@@ -117,10 +101,13 @@ fn a_cleared_value_is_dropped_without_the_lock(rt: HostRuntime) {
 
 /// Each of two threads has one item at a time, so two are made at most, and each that was made is
 /// kept at last.
-fn pulls<F: Shared, W: Abort + AllocGlobal + Wait + Threads + Copy + Send + 'static>(rt: W) {
+fn pulls<
+    F: Kind<Value, Part, Part> + Send + Sync + 'static,
+    W: Abort + AllocGlobal + Wait + Threads + Copy + Send + 'static,
+>(rt: W) {
     let opened = Opened::<F>::new(rt.alloc(), None);
     let Opened { pool, book } = opened.expect(&rt, "memory is left");
-    let thread = F::use_elsewhere(rt, &pool, 30_000).expect(&rt, "a thread is made");
+    let thread = use_elsewhere(rt, &pool, 30_000).expect(&rt, "a thread is made");
     let here = use_up(&rt, &*pool, 30_000);
     assert_eq!(rt; (here, thread.join(&rt)), (Some(0), Some(0)));
     let made = book.tally.calls();
