@@ -5,13 +5,11 @@ use std::fmt::{self, Display, Formatter, Write};
 use std::ops::DerefMut;
 
 /// A pool of numbers. It is a borrow, and hands out items.
-pub trait Gives<R>: Copy {
-    type Item: DerefMut<Target = u32> + Drop;
-
-    fn pull_one(self, rt: &R) -> Result<Self::Item, PullError>;
+pub trait Gives<A: DerefMut<Target = u32> + Drop, R>: Copy {
+    fn pull_one(self, rt: &R) -> Result<A, PullError>;
 
     /// The number of an item in its pool.
-    fn number(item: &Self::Item) -> usize;
+    fn number(item: &A) -> usize;
 }
 
 /// What a thread calls once. Before a return it pulls, and before turns it does too.
@@ -46,46 +44,66 @@ impl Call {
     }
 }
 
-/// An item, by its number and the value that it has, or that there is none.
+/// An item: its number, and the value that it has.
 #[derive(Clone, Copy)]
-pub enum Shown {
-    Item(usize, u32),
-    Nothing,
-}
-
-impl Display for Shown {
-    fn fmt<W: Write>(&self, f: &mut Formatter<W>) -> fmt::Result {
-        match self {
-            Shown::Item(number, value) => write!(f, "{number}:{value}"),
-            Shown::Nothing => f.write_str("none"),
-        }
-    }
+pub struct Shown {
+    number: usize,
+    value: u32,
 }
 
 /// What a thread tells of its call: the item that it held before, and the one that it pulled.
 #[derive(Clone, Copy)]
 pub struct Told {
-    pub held: Shown,
-    pub pulled: Shown,
+    held: Option<Shown>,
+    pulled: Option<Shown>,
+}
+
+impl Display for Shown {
+    fn fmt<W: Write>(&self, f: &mut Formatter<W>) -> fmt::Result {
+        write!(f, "{}:{}", self.number, self.value)
+    }
+}
+
+impl Display for Told {
+    fn fmt<W: Write>(&self, f: &mut Formatter<W>) -> fmt::Result {
+        f.write_str("held ")?;
+        tell(f, self.held)?;
+        f.write_str(" pulled ")?;
+        tell(f, self.pulled)
+    }
+}
+
+/// Writes an item, or that there is none.
+fn tell<W: Write>(f: &mut Formatter<W>, shown: Option<Shown>) -> fmt::Result {
+    match shown {
+        Some(shown) => write!(f, "{shown}"),
+        None => f.write_str("none"),
+    }
 }
 
 /// What an item shows.
-pub fn look<P: Gives<R>, R>(item: &P::Item) -> Shown {
-    Shown::Item(P::number(item), **item)
+pub fn look<A: DerefMut<Target = u32> + Drop, P: Gives<A, R>, R>(item: &A) -> Shown {
+    Shown {
+        number: P::number(item),
+        value: **item,
+    }
 }
 
 /// What is added to an item's number where a thread writes its value.
 const WRITTEN: u32 = 100;
 
 /// Writes to an item.
-fn mark<P: Gives<R>, R>(item: &mut P::Item) -> Shown {
+fn mark<A: DerefMut<Target = u32> + Drop, P: Gives<A, R>, R>(item: &mut A) -> Shown {
     let number = P::number(item);
     **item = WRITTEN.wrapping_add((number & 0xffff_ffff) as u32);
-    look::<P, R>(item)
+    look::<A, P, R>(item)
 }
 
 #[inline(never)]
-fn called_pull<P: Gives<R>, R>(rt: &R, pool: P) -> Result<P::Item, PullError> {
+fn called_pull<A: DerefMut<Target = u32> + Drop, P: Gives<A, R>, R>(
+    rt: &R,
+    pool: P,
+) -> Result<A, PullError> {
     pool.pull_one(rt)
 }
 
@@ -95,10 +113,13 @@ fn called_return<A: Drop>(item: A) {
 }
 
 #[inline(never)]
-fn called_turn<P: Gives<R>, R>(rt: &R, pool: P) -> Option<Shown> {
+fn called_turn<A: DerefMut<Target = u32> + Drop, P: Gives<A, R>, R>(
+    rt: &R,
+    pool: P,
+) -> Option<Shown> {
     let mut item = pool.pull_one(rt).ok()?;
-    let pulled = look::<P, R>(&item);
-    mark::<P, R>(&mut item);
+    let pulled = look::<A, P, R>(&item);
+    mark::<A, P, R>(&mut item);
     drop(item);
     Some(pulled)
 }
@@ -107,7 +128,7 @@ fn called_turn<P: Gives<R>, R>(rt: &R, pool: P) -> Option<Shown> {
 const TURNS: u32 = 200;
 
 #[inline(never)]
-fn called_turns<P: Gives<R>, R>(rt: &R, pool: P, item: P::Item) {
+fn called_turns<A: DerefMut<Target = u32> + Drop, P: Gives<A, R>, R>(rt: &R, pool: P, item: A) {
     let mut held = Some(item);
     for _ in 0..TURNS {
         drop(held.take());
@@ -115,26 +136,36 @@ fn called_turns<P: Gives<R>, R>(rt: &R, pool: P, item: P::Item) {
     }
 }
 
-/// Makes a call, and tells what it did. A return and turns have an item that is pulled before.
-pub fn made<P: Gives<R>, R>(rt: &R, pool: P, call: Call) -> Told {
-    let (mut held, mut pulled) = (Shown::Nothing, Shown::Nothing);
+/// Makes a call, and tells what it did.
+pub fn made<A: DerefMut<Target = u32> + Drop, P: Gives<A, R>, R>(
+    rt: &R,
+    pool: P,
+    call: Call,
+) -> Told {
     match call {
         Call::Pull => {
-            if let Ok(item) = called_pull(rt, pool) {
-                pulled = look::<P, R>(&item);
-            }
+            let item = called_pull::<A, P, R>(rt, pool).ok();
+            let pulled = item.as_ref().map(|item| look::<A, P, R>(item));
+            Told { held: None, pulled }
         }
-        Call::Turn => pulled = called_turn(rt, pool).unwrap_or(Shown::Nothing),
-        Call::Return | Call::Turns => {
-            if let Ok(mut item) = pool.pull_one(rt) {
-                held = mark::<P, R>(&mut item);
-                if call == Call::Return {
-                    called_return(item);
-                } else {
-                    called_turns(rt, pool, item);
-                }
-            }
+        Call::Turn => Told {
+            held: None,
+            pulled: called_turn::<A, P, R>(rt, pool),
+        },
+        Call::Return | Call::Turns => ended::<A, P, R>(rt, pool, call),
+    }
+}
+
+/// Pulls an item, which the call then has.
+fn ended<A: DerefMut<Target = u32> + Drop, P: Gives<A, R>, R>(rt: &R, pool: P, call: Call) -> Told {
+    let mut held = None;
+    if let Ok(mut item) = pool.pull_one(rt) {
+        held = Some(mark::<A, P, R>(&mut item));
+        if call == Call::Return {
+            called_return(item);
+        } else {
+            called_turns::<A, P, R>(rt, pool, item);
         }
     }
-    Told { held, pulled }
+    Told { held, pulled: None }
 }

@@ -2,8 +2,11 @@
 ghost use Rattle.std.specs.Prelude.{◌≤◌};
 
 use crate::calls::made;
-use crate::pools::{Fixed, Lazy, Linear, SpinLocked, Way};
-use crate::rounds::{State, Task, both_calls, held_but, tell_round};
+use crate::pools::{
+    Fixed, FixedItem, FixedOwnedItem, Lazy, LazyItem, LazyOwnedItem, Linear, LinearItem,
+    LinearOwnedItem, SpinLocked, SpinLockedItem, Way, WorkerItem, held_but,
+};
+use crate::rounds::{State, Task, tell_round};
 use lockfree_object_pool::closures::{Copied, Keep};
 use lockfree_object_pool::{
     FixedObjectPool, LazyObjectPool, LinearObjectPool, PullError, SpinLockObjectPool, Worker,
@@ -15,7 +18,7 @@ use std::{io, thread};
 
 /// A pool in a state.
 #[derive(Clone, Copy)]
-pub enum Pool {
+pub enum Kind {
     /// The linear pool, whose first page has room.
     LinearRoom,
     /// Its first page is full, and a hint leads to the second.
@@ -34,59 +37,115 @@ pub enum Pool {
     Lazy,
     /// The same, and one item is free.
     LazyLast,
+    /// The linear pool, by `try_pull`, `pull_owned`.
+    LinearTry,
+    LinearOwned,
+    /// The fixed pool, by `pull_near`, `try_pull`, `try_pull_from`, `pull_owned`, `pull_by_owner`.
+    FixedNear,
+    FixedTry,
+    FixedNoted,
+    FixedOwned,
+    FixedByOwner,
+    /// The lazy pool, by `near`, `try_pull`, `pull_with`, `pull_owned`.
+    LazyNear,
+    LazyTry,
+    LazyWith,
+    LazyOwned,
+    /// The fixed pool, by a worker for each thread.
+    Worker,
+    /// The fixed pool, behind a note of a spin lock pool.
+    StackNote,
+    /// The spin lock pool.
     SpinLock,
 }
 
-/// The name of a kind, its pool, and by which call an item is pulled.
-pub type Kind = (&'static str, Pool, Way);
+impl Kind {
+    pub const ALL: [Kind; 23] = [
+        Kind::LinearRoom,
+        Kind::LinearHint,
+        Kind::LinearLast,
+        Kind::LinearWalk,
+        Kind::LinearGrow,
+        Kind::Fixed,
+        Kind::FixedLast,
+        Kind::Lazy,
+        Kind::LazyLast,
+        Kind::LinearTry,
+        Kind::LinearOwned,
+        Kind::FixedNear,
+        Kind::FixedTry,
+        Kind::FixedNoted,
+        Kind::FixedOwned,
+        Kind::FixedByOwner,
+        Kind::LazyNear,
+        Kind::LazyTry,
+        Kind::LazyWith,
+        Kind::LazyOwned,
+        Kind::Worker,
+        Kind::StackNote,
+        Kind::SpinLock,
+    ];
 
-pub const KINDS: [Kind; 23] = [
-    ("linear_room", Pool::LinearRoom, Way::Pull),
-    ("linear_hint", Pool::LinearHint, Way::Pull),
-    ("linear_last", Pool::LinearLast, Way::Pull),
-    ("linear_walk", Pool::LinearWalk, Way::Pull),
-    ("linear_grow", Pool::LinearGrow, Way::Pull),
-    ("fixed", Pool::Fixed, Way::Pull),
-    ("fixed_last", Pool::FixedLast, Way::Pull),
-    ("lazy", Pool::Lazy, Way::Pull),
-    ("lazy_last", Pool::LazyLast, Way::Pull),
-    ("linear_try", Pool::LinearRoom, Way::Try),
-    ("linear_owned", Pool::LinearRoom, Way::Owned),
-    ("fixed_near", Pool::Fixed, Way::Near),
-    ("fixed_try", Pool::Fixed, Way::Try),
-    ("fixed_noted", Pool::Fixed, Way::Noted),
-    ("fixed_owned", Pool::Fixed, Way::Owned),
-    ("fixed_by_owner", Pool::Fixed, Way::ByOwner),
-    ("lazy_near", Pool::Lazy, Way::Near),
-    ("lazy_try", Pool::Lazy, Way::Try),
-    ("lazy_with", Pool::Lazy, Way::With),
-    ("lazy_owned", Pool::Lazy, Way::Owned),
-    ("worker", Pool::Fixed, Way::Worker),
-    ("stack_note", Pool::Fixed, Way::BehindNote),
-    ("spin_lock", Pool::SpinLock, Way::Pull),
-];
+    pub fn name(self) -> &'static str {
+        match self {
+            Kind::LinearRoom => "linear_room",
+            Kind::LinearHint => "linear_hint",
+            Kind::LinearLast => "linear_last",
+            Kind::LinearWalk => "linear_walk",
+            Kind::LinearGrow => "linear_grow",
+            Kind::Fixed => "fixed",
+            Kind::FixedLast => "fixed_last",
+            Kind::Lazy => "lazy",
+            Kind::LazyLast => "lazy_last",
+            Kind::LinearTry => "linear_try",
+            Kind::LinearOwned => "linear_owned",
+            Kind::FixedNear => "fixed_near",
+            Kind::FixedTry => "fixed_try",
+            Kind::FixedNoted => "fixed_noted",
+            Kind::FixedOwned => "fixed_owned",
+            Kind::FixedByOwner => "fixed_by_owner",
+            Kind::LazyNear => "lazy_near",
+            Kind::LazyTry => "lazy_try",
+            Kind::LazyWith => "lazy_with",
+            Kind::LazyOwned => "lazy_owned",
+            Kind::Worker => "worker",
+            Kind::StackNote => "stack_note",
+            Kind::SpinLock => "spin_lock",
+        }
+    }
 
-/// The kind of this name.
-pub fn kind_named(name: &str) -> Option<Kind> {
-    KINDS.iter().copied().find(|kind| kind.0 == name)
-}
+    /// The kind of this name.
+    pub fn named(name: &str) -> Option<Kind> {
+        Kind::ALL.iter().copied().find(|kind| kind.name() == name)
+    }
 
-/// The state of a pool.
-fn state_of(pool: Pool) -> State {
-    let (items, free, numbers) = match pool {
-        Pool::LinearRoom => (32, 2, [5, 17, 31, 8]),
-        Pool::LinearHint => (64, 2, [37, 50, 63, 44]),
-        Pool::LinearLast => (64, 1, [50, 37, 44, 63]),
-        Pool::LinearWalk => (96, 0, [70, 40, 5, 90]),
-        Pool::LinearGrow => (32, 0, [17, 5, 30, 8]),
-        Pool::Fixed | Pool::Lazy => (ITEMS, 2, [5, 33, 39, 20]),
-        Pool::FixedLast | Pool::LazyLast => (ITEMS, 1, [33, 5, 20, 39]),
-        Pool::SpinLock => (4, 4, [0, 1, 2, 3]),
-    };
-    State {
-        items,
-        free,
-        numbers,
+    fn state(self) -> State {
+        match self {
+            Kind::LinearRoom | Kind::LinearTry | Kind::LinearOwned => State::new(
+                32,
+                2,
+                [5, 17, 31, 8],
+            ),
+            Kind::LinearHint => State::new(64, 2, [37, 50, 63, 44]),
+            Kind::LinearLast => State::new(64, 1, [50, 37, 44, 63]),
+            Kind::LinearWalk => State::new(96, 0, [70, 40, 5, 90]),
+            Kind::LinearGrow => State::new(32, 0, [17, 5, 30, 8]),
+            Kind::Fixed
+            | Kind::FixedNear
+            | Kind::FixedTry
+            | Kind::FixedNoted
+            | Kind::FixedOwned
+            | Kind::FixedByOwner
+            | Kind::Worker
+            | Kind::StackNote
+            | Kind::Lazy
+            | Kind::LazyNear
+            | Kind::LazyTry
+            | Kind::LazyWith
+            | Kind::LazyOwned => State::new(40, 2, [5, 33, 39, 20]),
+            Kind::FixedLast | Kind::LazyLast => State::new(40, 1, [33, 5, 20, 39]),
+            Kind::SpinLock => State::new(4, 4, [0, 1, 2, 3]),
+        }
     }
 }
 
@@ -99,69 +158,117 @@ pub fn run<R: Print + AllocGlobal + Threads + Wait + Copy + Sync>(
     kind: Kind,
     task: Task,
 ) -> io::Result<()> {
-    let (_, pool, way) = kind;
-    let state = state_of(pool);
+    let state = kind.state();
     print!(rt; "free")?;
     for number in state.free_before(task) {
         print!(rt; " {number}")?;
     }
-    match pool {
-        Pool::LinearRoom | Pool::LinearGrow => println!(rt; " further {}", state.items)?,
+    match kind {
+        Kind::LinearRoom | Kind::LinearGrow | Kind::LinearTry | Kind::LinearOwned => {
+            println!(rt; " further {}", state.items)?;
+        }
         _ => println!(rt; "")?,
     }
     for _ in 0..task.rounds {
-        match pool {
-            Pool::Fixed | Pool::FixedLast => on_fixed(rt, rt.alloc(), way, state, task)?,
-            Pool::Lazy | Pool::LazyLast => on_lazy(rt, rt.alloc(), way, state, task)?,
-            Pool::SpinLock => both_calls(rt, rt.alloc(), &spin_locked(rt.alloc())?, state, task)?,
-            _ => on_linear(rt, rt.alloc(), pool, way, state, task)?,
-        }
+        one(rt, rt.alloc(), kind, state, task)?;
     }
     Ok(())
+}
+
+/// Makes one round.
+fn one<R: Print + Threads + Wait + Copy + Sync>(
+    rt: &R,
+    alloc: Global,
+    kind: Kind,
+    state: State,
+    task: Task,
+) -> io::Result<()> {
+    match kind {
+        Kind::LinearRoom | Kind::LinearGrow => {
+            on_linear(rt, alloc, linear(alloc)?, Way::Pull, state, task)
+        }
+        Kind::LinearTry => on_linear(rt, alloc, linear(alloc)?, Way::Try, state, task),
+        Kind::LinearHint | Kind::LinearLast => {
+            on_linear(rt, alloc, bounded(alloc, 2)?, Way::Pull, state, task)
+        }
+        Kind::LinearWalk => on_linear(rt, alloc, bounded(alloc, 3)?, Way::Pull, state, task),
+        Kind::LinearOwned => {
+            on_linear_owned(rt, alloc, Arc::new(alloc, linear(alloc)?)?, state, task)
+        }
+        Kind::Fixed | Kind::FixedLast => on_fixed(rt, alloc, Way::Pull, state, task),
+        Kind::FixedNear => on_fixed(rt, alloc, Way::Near, state, task),
+        Kind::FixedTry => on_fixed(rt, alloc, Way::Try, state, task),
+        Kind::FixedNoted => on_fixed(rt, alloc, Way::Noted, state, task),
+        Kind::FixedOwned => on_fixed_owned(rt, alloc, Way::Pull, state, task),
+        Kind::FixedByOwner => on_fixed_owned(rt, alloc, Way::Noted, state, task),
+        Kind::Lazy | Kind::LazyLast => on_lazy(rt, alloc, Way::Pull, state, task),
+        Kind::LazyNear => on_lazy(rt, alloc, Way::Near, state, task),
+        Kind::LazyTry => on_lazy(rt, alloc, Way::Try, state, task),
+        Kind::LazyWith => on_lazy(rt, alloc, Way::With, state, task),
+        Kind::LazyOwned => on_lazy_owned(rt, alloc, state, task),
+        Kind::Worker => on_workers(rt, alloc, state, task),
+        Kind::StackNote => on_notes(rt, alloc, state, task),
+        Kind::SpinLock => on_spin_lock(rt, alloc, state, task),
+    }
+}
+
+fn linear(alloc: Global) -> Result<Linear, PullError> {
+    LinearObjectPool::new(alloc, Copied::new(0), Keep)
+}
+
+fn bounded(alloc: Global, pages: usize) -> Result<Linear, PullError>
+    requires { 1 ≤ pages }
+{
+    LinearObjectPool::with_limit(alloc, Copied::new(0), Keep, pages)
+}
+
+fn fixed(alloc: Global) -> Result<Fixed, PullError> {
+    FixedObjectPool::new(alloc, Copied::new(0), Keep, ITEMS)
+}
+
+fn lazy(alloc: Global) -> Result<Lazy, PullError> {
+    LazyObjectPool::new(alloc, Copied::new(0), Keep, ITEMS)
 }
 
 fn spin_locked(alloc: Global) -> Result<SpinLocked, PullError> {
     SpinLockObjectPool::new(alloc, Copied::new(0), Keep)
 }
 
-fn linear(alloc: Global, pool: Pool) -> Result<Linear, PullError> {
-    let init = Copied::new(0);
-    match pool {
-        Pool::LinearHint | Pool::LinearLast => LinearObjectPool::with_limit(alloc, init, Keep, 2),
-        Pool::LinearWalk => LinearObjectPool::with_limit(alloc, init, Keep, 3),
-        _ => LinearObjectPool::new(alloc, init, Keep),
-    }
+/// Holds all items of a pool but those that are to be free, and makes both calls. The pool's type
+/// is known where this stands: what is sent to a thread may not rest on a bound.
+macro_rules! both_calls {
+    ($rt:expr, $alloc:expr, $pool:expr, $state:expr, $task:expr, $item:ty) => {{
+        let free = $state.free_before($task);
+        let _held = held_but::<$item, _, R>($rt, $alloc, $pool, $state.items, free)?;
+        let told = thread::join(
+            $rt,
+            || made::<$item, _, R>($rt, $pool, $task.first),
+            || made::<$item, _, R>($rt, $pool, $task.second),
+        );
+        tell_round::<$item, _, R>($rt, $alloc, $pool, told, free.len())
+    }};
 }
 
 fn on_linear<R: Print + Threads + Sync>(
     rt: &R,
     alloc: Global,
-    pool: Pool,
+    pool: Linear,
     way: Way,
     state: State,
     task: Task,
 ) -> io::Result<()> {
-    let pool = linear(alloc, pool)?;
-    if way == Way::Owned {
-        let pool = Arc::new(alloc, pool)?;
-        return both_calls(rt, alloc, &pool, state, task);
-    }
-    both_calls(rt, alloc, (&pool, way), state, task)
+    let by = (&pool, way);
+    both_calls!(rt, alloc, by, state, task, LinearItem<'_>)
 }
 
-fn on_lazy<R: Print + Threads + Sync>(
+fn on_linear_owned<R: Print + Threads + Sync>(
     rt: &R,
     alloc: Global,
-    way: Way,
+    pool: Arc<Linear>,
     state: State,
     task: Task,
 ) -> io::Result<()> {
-    let pool: Lazy = LazyObjectPool::new(alloc, Copied::new(0), Keep, ITEMS)?;
-    if way == Way::Owned {
-        let pool = Arc::new(alloc, pool)?;
-        return both_calls(rt, alloc, &pool, state, task);
-    }
-    both_calls(rt, alloc, (&pool, way), state, task)
+    both_calls!(rt, alloc, &pool, state, task, LinearOwnedItem)
 }
 
 fn on_fixed<R: Print + Threads + Sync>(
@@ -171,37 +278,82 @@ fn on_fixed<R: Print + Threads + Sync>(
     state: State,
     task: Task,
 ) -> io::Result<()> {
-    let pool: Fixed = FixedObjectPool::new(alloc, Copied::new(0), Keep, ITEMS)?;
-    match way {
-        Way::Owned | Way::ByOwner => {
-            let pool = Arc::new(alloc, pool)?;
-            both_calls(rt, alloc, (&pool, way), state, task)
-        }
-        Way::Worker => by_workers(rt, alloc, &pool, state, task),
-        Way::BehindNote => {
-            let stack = spin_locked(alloc)?;
-            both_calls(rt, alloc, (&stack, &pool), state, task)
-        }
-        _ => both_calls(rt, alloc, (&pool, way), state, task),
-    }
+    let pool = fixed(alloc)?;
+    let by = (&pool, way);
+    both_calls!(rt, alloc, by, state, task, FixedItem<'_>)
 }
 
-/// Makes both calls by a worker for each thread.
-fn by_workers<R: Print + Threads + Sync>(
+fn on_fixed_owned<R: Print + Threads + Sync>(
     rt: &R,
     alloc: Global,
-    pool: &Fixed,
+    way: Way,
     state: State,
     task: Task,
 ) -> io::Result<()> {
-    let by = (pool, Way::Pull);
+    let pool = Arc::new(alloc, fixed(alloc)?)?;
+    let by = (&pool, way);
+    both_calls!(rt, alloc, by, state, task, FixedOwnedItem)
+}
+
+fn on_lazy<R: Print + Threads + Sync>(
+    rt: &R,
+    alloc: Global,
+    way: Way,
+    state: State,
+    task: Task,
+) -> io::Result<()> {
+    let pool = lazy(alloc)?;
+    let by = (&pool, way);
+    both_calls!(rt, alloc, by, state, task, LazyItem<'_>)
+}
+
+fn on_lazy_owned<R: Print + Threads + Sync>(
+    rt: &R,
+    alloc: Global,
+    state: State,
+    task: Task,
+) -> io::Result<()> {
+    let pool = Arc::new(alloc, lazy(alloc)?)?;
+    both_calls!(rt, alloc, &pool, state, task, LazyOwnedItem)
+}
+
+fn on_notes<R: Print + Threads + Sync>(
+    rt: &R,
+    alloc: Global,
+    state: State,
+    task: Task,
+) -> io::Result<()> {
+    let (stack, pool) = (spin_locked(alloc)?, fixed(alloc)?);
+    let both = (&stack, &pool);
+    both_calls!(rt, alloc, both, state, task, FixedItem<'_>)
+}
+
+fn on_spin_lock<R: Print + Threads + Wait + Copy + Sync>(
+    rt: &R,
+    alloc: Global,
+    state: State,
+    task: Task,
+) -> io::Result<()> {
+    let pool = spin_locked(alloc)?;
+    both_calls!(rt, alloc, &pool, state, task, SpinLockedItem<'_, R>)
+}
+
+/// Makes both calls by a worker for each thread.
+fn on_workers<R: Print + Threads + Sync>(
+    rt: &R,
+    alloc: Global,
+    state: State,
+    task: Task,
+) -> io::Result<()> {
+    let pool = fixed(alloc)?;
+    let by = (&pool, Way::Pull);
     let free = state.free_before(task);
-    let _held = held_but(rt, alloc, by, state.items, free)?;
+    let _held = held_but::<FixedItem<'_>, _, R>(rt, alloc, by, state.items, free)?;
     let (first, second) = (Worker::new(pool.near()), Worker::new(pool.near()));
     let told = thread::join(
         rt,
-        move || made(rt, &first, task.first),
-        move || made(rt, &second, task.second),
+        move || made::<WorkerItem<'_, '_>, _, R>(rt, &first, task.first),
+        move || made::<WorkerItem<'_, '_>, _, R>(rt, &second, task.second),
     );
-    tell_round(rt, alloc, by, told, free.len())
+    tell_round::<FixedItem<'_>, _, R>(rt, alloc, by, told, free.len())
 }

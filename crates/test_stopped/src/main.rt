@@ -15,7 +15,7 @@ mod pools;
 mod rounds;
 
 use calls::Call;
-use kinds::{KINDS, Kind, kind_named};
+use kinds::Kind;
 use rounds::Task;
 use std::process::ExitCode;
 use std::rt::Env;
@@ -40,8 +40,8 @@ enum Asked {
 }
 
 fn list_kinds<R: Print>(rt: &R) -> io::Result<()> {
-    for (name, _, _) in KINDS {
-        println!(rt; "{name}")?;
+    for kind in Kind::ALL {
+        println!(rt; "{}", kind.name())?;
     }
     Ok(())
 }
@@ -58,5 +58,5 @@ fn read_words<R: Env + AllocGlobal>(rt: &R) -> Option<Asked> {
         second: Call::named(&words.next()?)?,
         rounds: words.next()?.parse().ok()?,
     };
-    Some(Asked::Rounds(kind_named(&kind)?, task))
+    Some(Asked::Rounds(Kind::named(&kind)?, task))
 }

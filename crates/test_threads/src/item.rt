@@ -1,68 +1,137 @@
 //! The kinds of item: a number, a list of numbers, and a number that counts its drop.
-use lockfree_object_pool::PullError;
+use crate::tally::Tally;
 use lockfree_object_pool::clean::AnyValue;
 use lockfree_object_pool::closures::{Init, Reset};
 use std::alloc::Global;
 use std::sync::Arc;
-use test_values::tally::Tally;
-
-#[derive(Clone, Copy, PartialEq, Eq)]
-pub enum Kind {
-    Number,
-    List,
-    Counted,
-}
 
 /// An item that shows the number that was written to it last.
+pub trait Item: Drop {
+    /// What a report calls such items.
+    const NAME: &'static str;
+
+    /// Whether the tally has its makings and drops.
+    const COUNTS_DROPS: bool;
+
+    fn new(maker: &Maker) -> Option<Self>;
+
+    /// Whether there was memory for it.
+    fn write(&mut self, number: u32) -> bool;
+
+    fn shows(&self, number: u32) -> bool;
+
+    fn clear(&mut self);
+
+    /// Whether it is as `clear` leaves it.
+    fn is_clear(&self) -> bool;
+}
+
+/// A number alone.
 #[derive(Drop)]
-pub enum Item {
-    Number(u32),
-    /// It has its number twice, and takes memory when it is written first.
-    List(Vec<u32>),
-    Counted(Counted),
+pub struct Number {
+    number: u32,
+}
+
+impl Item for Number {
+    const NAME: &'static str = "numbers";
+
+    const COUNTS_DROPS: bool = false;
+
+    fn new(_maker: &Maker) -> Option<Number> {
+        Some(Number { number: 0 })
+    }
+
+    fn write(&mut self, number: u32) -> bool {
+        self.number = number;
+        true
+    }
+
+    fn shows(&self, number: u32) -> bool {
+        self.number == number
+    }
+
+    fn clear(&mut self) {
+        self.number = 0;
+    }
+
+    fn is_clear(&self) -> bool {
+        self.number == 0
+    }
+}
+
+/// A list that has its number twice, and takes memory when it is written first.
+#[derive(Drop)]
+pub struct Numbers {
+    list: Vec<u32>,
+}
+
+impl Item for Numbers {
+    const NAME: &'static str = "lists";
+
+    const COUNTS_DROPS: bool = false;
+
+    fn new(maker: &Maker) -> Option<Numbers> {
+        let list = Vec::new(maker.alloc);
+        Some(Numbers { list })
+    }
+
+    fn write(&mut self, number: u32) -> bool {
+        self.list.clear();
+        self.list.push(number).is_ok() && self.list.push(number).is_ok()
+    }
+
+    fn shows(&self, number: u32) -> bool {
+        self.list.as_slice() == [number, number].as_slice()
+    }
+
+    fn clear(&mut self) {
+        self.list.clear();
+    }
+
+    fn is_clear(&self) -> bool {
+        self.list.is_empty()
+    }
 }
 
 /// A number that counts its drop.
-pub struct Counted {
+pub struct Tallied {
     tally: Arc<Tally>,
     number: u32,
 }
 
-impl Drop for Counted {
+impl Drop for Tallied {
     fn drop(self) {
-        let Counted { tally, number: _ } = self;
-        tally.count_drop();
+        let Tallied { tally, number: _ } = self;
+        tally.count_dropped();
     }
 }
 
-impl Item {
-    /// Whether there was memory for it.
-    pub fn write(&mut self, number: u32) -> bool {
-        match self {
-            Item::Number(place) => *place = number,
-            Item::List(list) => {
-                list.clear();
-                return list.push(number).is_ok() && list.push(number).is_ok();
-            }
-            Item::Counted(counted) => counted.number = number,
-        }
+impl Item for Tallied {
+    const NAME: &'static str = "counted";
+
+    const COUNTS_DROPS: bool = true;
+
+    fn new(maker: &Maker) -> Option<Tallied> {
+        let tally = Arc::try_clone(&maker.tally).ok()?;
+        tally.count_made();
+        Some(Tallied { tally, number: 0 })
+    }
+
+    fn write(&mut self, number: u32) -> bool {
+        self.number = number;
         true
     }
 
-    pub fn shows(&self, number: u32) -> bool {
-        match self {
-            Item::Number(written) => *written == number,
-            Item::List(list) => list.as_slice() == [number, number].as_slice(),
-            Item::Counted(counted) => counted.number == number,
-        }
+    fn shows(&self, number: u32) -> bool {
+        self.number == number
     }
 
-    /// Whether it is as a reset leaves it.
-    pub fn is_clear(&self) -> bool {
-        match self {
-            Item::List(list) => list.is_empty(),
-            _ => self.shows(0),
-        }
+    fn clear(&mut self) {
+        self.number = 0;
+    }
+
+    fn is_clear(&self) -> bool {
+        self.number == 0
     }
 }
 
@@ -70,36 +139,20 @@ impl Item {
 /// so is a fixed pool.
 const CALLS_TO_A_REFUSAL: usize = 50;
 
-/// Makes items of a kind, and refuses now and then. The tally has what it made.
+/// Makes items, and refuses now and then.
 #[derive(Drop)]
 pub struct Maker {
-    alloc: Global,
-    kind: Kind,
-    tally: Arc<Tally>,
+    pub alloc: Global,
+    pub tally: Arc<Tally>,
 }
 
-impl Maker {
-    pub fn new(alloc: Global, kind: Kind, tally: &Arc<Tally>) -> Result<Maker, PullError> {
-        let tally = Arc::try_clone(tally)?;
-        Ok(Maker { alloc, kind, tally })
-    }
-}
-
-impl Init<Item, AnyValue> for Maker {
-    fn make(&self) -> Option<Item> {
-        if self.tally.next_call() % CALLS_TO_A_REFUSAL == CALLS_TO_A_REFUSAL - 1 {
+impl<T: Item> Init<T, AnyValue> for Maker {
+    fn make(&self) -> Option<T> {
+        if self.tally.call() % CALLS_TO_A_REFUSAL == CALLS_TO_A_REFUSAL - 1 {
+            self.tally.count_refused();
             return None;
         }
-        let item = match self.kind {
-            Kind::Number => Item::Number(0),
-            Kind::List => Item::List(Vec::new(self.alloc)),
-            Kind::Counted => Item::Counted(Counted {
-                tally: Arc::try_clone(&self.tally).ok()?,
-                number: 0,
-            }),
-        };
-        self.tally.count_made();
-        Some(item)
+        T::new(self)
     }
 }
 
@@ -107,12 +160,8 @@ impl Init<Item, AnyValue> for Maker {
 #[derive(Clone, Copy, Drop)]
 pub struct Clears;
 
-impl Reset<Item, AnyValue> for Clears {
-    fn reset(&self, item: &mut Item) {
-        match item {
-            Item::List(list) => list.clear(),
-            Item::Number(number) => *number = 0,
-            Item::Counted(counted) => counted.number = 0,
-        }
+impl<T: Item> Reset<T, AnyValue> for Clears {
+    fn reset(&self, value: &mut T) {
+        value.clear();
     }
 }

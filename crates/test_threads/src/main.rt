@@ -21,14 +21,16 @@
 mod handed;
 mod item;
 mod lazy;
+mod made_once;
 mod one_each;
 mod pools;
 mod report;
+mod stacks;
+mod tally;
 mod worker;
 
-use item::Kind;
+use item::{Item, Number, Numbers, Tallied};
 use lockfree_object_pool::PullError;
-use pools::Pool;
 use report::Report;
 use std::process::ExitCode;
 use std::rt::Env;
@@ -57,18 +59,13 @@ fn rounds<R: Env + AllocGlobal>(rt: &R) -> Option<u32> {
 /// How many rounds there are for one in which a thread waits.
 const WAITS: u32 = 10;
 
-/// Each pool that is used with each kind of item, and each kind, as a line names them.
-const POOLS: [(&str, Pool); 3] = [
-    ("linear", Pool::Linear),
-    ("fixed", Pool::Fixed),
-    ("spin lock", Pool::SpinLock),
-];
-
-const KINDS: [(&str, Kind); 3] = [
-    ("numbers", Kind::Number),
-    ("lists", Kind::List),
-    ("counted", Kind::Counted),
-];
+/// The pools that are used with each kind of item.
+#[derive(Clone, Copy)]
+enum Kind {
+    Linear,
+    Fixed,
+    SpinLock,
+}
 
 /// Each pool with each kind of item.
 fn use_all<R: Print + AllocGlobal + Threads + Wait + Clock + Copy + Send + Sync + 'static>(
@@ -76,38 +73,52 @@ fn use_all<R: Print + AllocGlobal + Threads + Wait + Clock + Copy + Send + Sync 
     rounds: u32,
 ) -> io::Result<ExitCode> {
     let mut is_good = true;
-    for (name, pool) in POOLS {
-        for (items, kind) in KINDS {
-            let report = pools::used(rt, rt.alloc(), pool, kind, rounds);
-            is_good &= tell(rt, name, items, &report)?;
-        }
+    for kind in [Kind::Linear, Kind::Fixed, Kind::SpinLock] {
+        is_good &= use_kind::<Number, R>(rt, kind, rounds)?;
+        is_good &= use_kind::<Numbers, R>(rt, kind, rounds)?;
+        is_good &= use_kind::<Tallied, R>(rt, kind, rounds)?;
     }
     is_good &= use_lazy(rt, rounds)?;
-    let alloc = rt.alloc();
-    let refused = one_each::refused(rt, alloc, rounds);
-    let again = one_each::made_again(rt, alloc, rounds);
-    let lost = handed::lost(rt, alloc, rounds / WAITS);
-    let counts = [
-        ("fixed, an item for each thread", "pulls refused", refused),
-        ("lazy, made by the closure of a pull", "made again", again),
-        (
-            "lazy of 1 item, returned once to one that waits",
-            "lost",
-            lost,
-        ),
-    ];
-    for (pool, what, count) in counts {
-        is_good &= matches!(count, Ok(0));
-        match count {
-            Ok(count) => println!(rt; "{pool}: {count} {what}")?,
-            Err(refusal) => println!(rt; "{pool}: {refusal}")?,
-        }
-    }
+    let refused = one_each::refused(rt, rt.alloc(), rounds);
+    is_good &= tell_count(
+        rt,
+        "fixed, an item for each thread",
+        "pulls refused",
+        &refused,
+    )?;
+    let again = made_once::made_again(rt, rt.alloc(), rounds);
+    is_good &= tell_count(
+        rt,
+        "lazy, made by the closure of a pull",
+        "made again",
+        &again,
+    )?;
+    let lost = handed::lost(rt, rt.alloc(), rounds / WAITS);
+    is_good &= tell_count(
+        rt,
+        "lazy of 1 item, returned once to one that waits",
+        "lost",
+        &lost,
+    )?;
     Ok(if is_good {
         ExitCode::SUCCESS
     } else {
         ExitCode::from(1)
     })
+}
+
+/// Uses a pool with one kind of item. Whether nothing was seen that may not be.
+fn use_kind<
+    T: Item + Send + 'static,
+    R: Print + AllocGlobal + Threads + Wait + Copy + Send + 'static,
+>(rt: &R, kind: Kind, rounds: u32) -> io::Result<bool> {
+    let alloc = rt.alloc();
+    let (name, report) = match kind {
+        Kind::Linear => ("linear", pools::linear::<T, R>(rt, alloc, rounds)),
+        Kind::Fixed => ("fixed", pools::fixed::<T, R>(rt, alloc, rounds)),
+        Kind::SpinLock => ("spin lock", stacks::spin_lock::<T, R>(rt, alloc, rounds)),
+    };
+    tell(rt, name, T::NAME, &report)
 }
 
 /// Uses lazy pools. Whether nothing was seen that may not be.
@@ -122,6 +133,25 @@ fn use_lazy<R: Print + AllocGlobal + Threads + Wait + Clock + Copy + Send + 'sta
     let report = lazy::waited_for(rt, alloc, 3, waits);
     is_good &= tell(rt, "lazy of 3 items", "which are waited for", &report)?;
     Ok(is_good)
+}
+
+/// Prints how often something was seen that may not be. Whether it wasn't.
+fn tell_count<R: Print>(
+    rt: &R,
+    pool: &str,
+    what: &str,
+    count: &Result<usize, PullError>,
+) -> io::Result<bool> {
+    match count {
+        Ok(count) => {
+            println!(rt; "{pool}: {count} {what}")?;
+            Ok(*count == 0)
+        }
+        Err(refusal) => {
+            println!(rt; "{pool}: {refusal}")?;
+            Ok(false)
+        }
+    }
 }
 
 /// Prints what was seen on a pool with some items. Whether it was nothing that may not be.

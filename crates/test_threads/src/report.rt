@@ -1,20 +1,18 @@
 //! What threads saw.
-use crate::item::Kind;
 use std::fmt;
 use std::fmt::{Display, Formatter, Write};
-use test_values::tally::Tally;
 
 /// What a thread saw that may not be, and what it forgot.
-#[derive(Default, Drop)]
+#[derive(Drop)]
 pub struct Report {
     /// Items that another holder wrote to.
-    pub shared: usize,
+    shared: u32,
     /// Pulled items that weren't as a reset leaves them.
-    pub unclear: usize,
+    unclear: u32,
     /// Calls for which there was no memory.
-    pub without_memory: usize,
+    without_memory: u32,
     /// Pulls that `init` refused, as it was meant.
-    pub refused: usize,
+    refused: usize,
     /// Refusals of `init` that no pull told, or that were told twice.
     untold: usize,
     /// Items that were forgotten, as it was meant.
@@ -25,15 +23,45 @@ pub struct Report {
     /// too many of.
     missing: usize,
     /// Whether a thread waited for an item for longer than it may.
-    pub late: bool,
-}
-
-/// Counts one more of what a report counts.
-pub fn one_more(count: &mut usize) {
-    *count = count.saturating_add(1);
+    late: bool,
 }
 
 impl Report {
+    /// Creates a report of nothing.
+    pub fn new() -> Report {
+        Report {
+            shared: 0,
+            unclear: 0,
+            without_memory: 0,
+            refused: 0,
+            untold: 0,
+            forgotten: 0,
+            lost: 0,
+            missing: 0,
+            late: false,
+        }
+    }
+
+    /// Counts an item that two holders had.
+    pub fn count_shared(&mut self) {
+        self.shared = self.shared.saturating_add(1);
+    }
+
+    /// Counts an item that came otherwise than reset.
+    pub fn count_unclear(&mut self) {
+        self.unclear = self.unclear.saturating_add(1);
+    }
+
+    /// Counts a refusal for memory.
+    pub fn count_without_memory(&mut self) {
+        self.without_memory = self.without_memory.saturating_add(1);
+    }
+
+    /// Counts a refusal by `init`.
+    pub fn count_refused(&mut self) {
+        self.refused = self.refused.saturating_add(1);
+    }
+
     /// Adds what another thread saw, before either is ended.
     pub fn add(&mut self, other: &Report) {
         self.shared = self.shared.saturating_add(other.shared);
@@ -43,17 +71,24 @@ impl Report {
         self.forgotten = self.forgotten.saturating_add(other.forgotten);
     }
 
-    /// Ends it, behind a pool that had so many items, of which so many could be pulled. An item
-    /// that lives on wasn't dropped, and but for the forgotten ones each has to be.
-    pub fn end(&mut self, items: usize, pulled: usize, kind: Kind, tally: &Tally) {
+    /// Ends it, when so many counted items live.
+    pub fn end_living(&mut self, living: usize) {
+        self.lost = living.abs_diff(self.forgotten);
+    }
+
+    /// Ends it, when a pool has so many items, and so many could be pulled.
+    pub fn end_pulled(&mut self, items: usize, pulled: usize) {
         self.missing = items.abs_diff(pulled.saturating_add(self.forgotten));
-        self.untold = tally
-            .calls()
-            .wrapping_sub(tally.made())
-            .abs_diff(self.refused);
-        if kind == Kind::Counted {
-            self.lost = tally.living().abs_diff(self.forgotten);
-        }
+    }
+
+    /// Ends it, when `init` refused so often.
+    pub fn end_refused(&mut self, refusals: usize) {
+        self.untold = refusals.abs_diff(self.refused);
+    }
+
+    /// Ends it, where the threads came to their end in time or not.
+    pub fn end_late(&mut self, late: bool) {
+        self.late = late;
     }
 
     /// Whether nothing was seen that may not be.

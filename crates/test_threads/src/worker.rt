@@ -1,7 +1,7 @@
 //! What one of the threads does: it pulls, writes, checks, drops and forgets items, and sends owned
 //! ones to the others.
 use crate::item::Item;
-use crate::report::{Report, one_more};
+use crate::report::Report;
 use crossbeam_channel::{Receiver, Sender};
 use lockfree_object_pool::PullError;
 use rand_core::Rng;
@@ -33,6 +33,13 @@ pub enum Turn {
     Receive,
 }
 
+/// The channel of the threads, by both its ends.
+#[derive(Drop)]
+pub struct Post<A: Drop> {
+    pub sender: Sender<Marked<A>>,
+    pub receiver: Receiver<Marked<A>>,
+}
+
 /// A thread, with the owned items that it holds.
 #[derive(Drop)]
 pub struct Worker<A: Drop> {
@@ -40,31 +47,24 @@ pub struct Worker<A: Drop> {
     /// What it writes next. No other worker writes it.
     mark: u32,
     held: Vec<Marked<A>>,
-    sender: Sender<Marked<A>>,
-    receiver: Receiver<Marked<A>>,
+    post: Post<A>,
     report: Report,
 }
 
 impl<A: Drop> Worker<A> {
-    /// Creates a worker that holds nothing, of a number of its own from 1 on, at a channel.
-    pub fn new(
-        alloc: Global,
-        number: u32,
-        sender: Sender<Marked<A>>,
-        receiver: Receiver<Marked<A>>,
-    ) -> Worker<A> {
+    /// Creates a worker that holds nothing, of a number of its own from 1 on.
+    pub fn new(alloc: Global, number: u32, post: Post<A>) -> Worker<A> {
         Worker {
             random: Pcg32::new(u64::from(number), 54),
             mark: number.wrapping_shl(24),
             held: Vec::new(alloc),
-            sender,
-            receiver,
-            report: Report::default(),
+            post,
+            report: Report::new(),
         }
     }
 }
 
-impl<A: DerefMut<Target = Item> + Drop> Worker<A> {
+impl<T: Item, A: DerefMut<Target = T> + Drop> Worker<A> {
     /// Returns what it does next, with a number of its own that it writes.
     pub fn next_turn(&mut self) -> Turn {
         self.mark = self.mark.wrapping_add(1);
@@ -90,48 +90,51 @@ impl<A: DerefMut<Target = Item> + Drop> Worker<A> {
     pub fn pulled<B: Drop>(&mut self, pulled: Result<B, PullError>) -> Option<B> {
         match pulled {
             Ok(item) => return Some(item),
-            Err(PullError::Memory) => one_more(&mut self.report.without_memory),
-            Err(PullError::Init) => one_more(&mut self.report.refused),
+            Err(PullError::Memory) => self.report.count_without_memory(),
+            Err(PullError::Init) => self.report.count_refused(),
             Err(PullError::Limit | PullError::Closed) => {}
         }
         None
     }
 
     /// Writes to an item that was pulled now, and lets other threads run before it looks again.
-    pub fn mark(&mut self, item: &mut Item) {
+    pub fn mark(&mut self, item: &mut T) {
         if !item.is_clear() {
-            one_more(&mut self.report.unclear);
+            self.report.count_unclear();
         }
         if !item.write(self.mark) {
-            one_more(&mut self.report.without_memory);
+            self.report.count_without_memory();
             return;
         }
         thread::yield_now();
         if !item.shows(self.mark) {
-            one_more(&mut self.report.shared);
+            self.report.count_shared();
         }
     }
 
     /// Looks at an item that was marked before, here or on another thread.
     fn check(&mut self, marked: &Marked<A>) {
         if !marked.item.shows(marked.mark) {
-            one_more(&mut self.report.shared);
+            self.report.count_shared();
         }
     }
 
-    /// Uses an item and drops it, or forgets it now and then, if it may.
-    pub fn use_one<B: DerefMut<Target = Item> + Drop>(
-        &mut self,
-        pulled: Result<B, PullError>,
-        may_forget: bool,
-    ) {
+    /// Uses a borrowed item, and drops or forgets it.
+    pub fn use_borrowed<B: DerefMut<Target = T> + Drop>(&mut self, pulled: Result<B, PullError>) {
+        let Some(mut item) = self.pulled(pulled) else {
+            return;
+        };
+        self.mark(&mut *item);
+        if self.report.forgotten < MOST_FORGOTTEN && self.random.next_u32() % 64 == 0 {
+            self.report.forgotten = self.report.forgotten.saturating_add(1);
+            mem::forget(item);
+        }
+    }
+
+    /// Uses an item and drops it.
+    pub fn use_once<B: DerefMut<Target = T> + Drop>(&mut self, pulled: Result<B, PullError>) {
         if let Some(mut item) = self.pulled(pulled) {
             self.mark(&mut *item);
-            let may_forget = may_forget && self.report.forgotten < MOST_FORGOTTEN;
-            if may_forget && self.random.next_u32() % 64 == 0 {
-                one_more(&mut self.report.forgotten);
-                mem::forget(item);
-            }
         }
     }
 
@@ -147,7 +150,7 @@ impl<A: DerefMut<Target = Item> + Drop> Worker<A> {
     /// Holds the item where it may hold one more, and drops it else.
     fn hold(&mut self, marked: Marked<A>) {
         if self.held.len() < MOST_HELD && self.held.push(marked).is_err() {
-            one_more(&mut self.report.without_memory);
+            self.report.count_without_memory();
         }
     }
 
@@ -159,14 +162,14 @@ impl<A: DerefMut<Target = Item> + Drop> Worker<A> {
         let index = self.random.next_u32() as usize % self.held.len();
         let marked = self.held.swap_remove(index);
         self.check(&marked);
-        if self.random.next_u32() % 2 == 0 && self.sender.send(rt, marked).is_err() {
-            one_more(&mut self.report.without_memory);
+        if self.random.next_u32() % 2 == 0 && self.post.sender.send(rt, marked).is_err() {
+            self.report.count_without_memory();
         }
     }
 
     /// Receives an item, if one waits.
     pub fn receive<W: Wait>(&mut self, rt: &W) {
-        if let Ok(marked) = self.receiver.try_recv(rt) {
+        if let Ok(marked) = self.post.receiver.try_recv(rt) {
             self.check(&marked);
             self.hold(marked);
         }
