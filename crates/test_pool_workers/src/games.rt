@@ -138,12 +138,12 @@ pub fn wrong_at<P: WorkerPlace<Value>, S: Shared<P, P::Item>>(
 
 /// A game that may be played again.
 #[derive(Drop)]
-struct Again<'r, 's, R: Abort + AllocGlobal> {
+struct Again<'r, R: Abort + AllocGlobal> {
     rt: &'r R,
-    setting: Setting<'s>,
+    setting: Setting<'r>,
 }
 
-impl<'r, 's, R: Abort + AllocGlobal> Trial for Again<'r, 's, R> {
+impl<'r, R: Abort + AllocGlobal> Trial for Again<'r, R> {
     fn fails(&self, list: &[Command]) -> bool {
         let mut again = Vec::new(self.rt.alloc());
         let copied = again.extend_from_slice(list).is_ok();
