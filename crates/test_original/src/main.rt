@@ -7,13 +7,21 @@
 #![tactic(auto)]
 
 mod answers;
+mod shared;
 mod times;
 
-use answers::{Kind, answer_calls, asked_for};
+use answers::answer_calls;
+use answers::arguments::{Arguments, Kind, arguments_of};
 use anyhow::{Context, Result};
 use std::env;
 use times::task::task_of;
 use times::{show_each, show_time};
+
+/// What answers the calls where no arguments are given.
+const ANSWERS: Arguments = Arguments {
+    kind: Kind::Mutex,
+    clears: true,
+};
 
 fn main(rt: HostRuntime) -> Result<()> {
     let mut arguments = env::args(&rt)?;
@@ -22,13 +30,13 @@ fn main(rt: HostRuntime) -> Result<()> {
     let words: Vec<&str> = arguments.iter().map(String::as_str).collect(rt.alloc())?;
     if words.is_empty() {
         show_each(&rt)?;
-        return answer_calls(&rt, Kind::Mutex, true);
+        return answer_calls(&rt, ANSWERS);
     }
-    if let Some((kind, clears)) = asked_for(&words) {
-        return answer_calls(&rt, kind, clears);
+    if let Some(arguments) = arguments_of(&words) {
+        return answer_calls(&rt, arguments);
     }
     let task = task_of(&words).context(
         "usage: test_original [POOL keep|clear], or test_original POOL WORK TURNS",
     )?;
-    show_time(&rt, &words, task)
+    show_time(&rt, task)
 }

@@ -5,37 +5,60 @@ mod measure;
 mod pulls;
 pub mod task;
 mod turns;
+mod workers;
 
-use anyhow::{Context, Result, ensure};
+use anyhow::{Context, Result};
 use measure::measure;
 use std::alloc::Global;
 use std::rt::{Clock, Files};
 use std::sync::Wait;
 use std::thread::Threads;
-use task::{KINDS, Task, task_of};
+use task::{Kind, Task, Work, task_of};
 use test_values::peak_memory::peak_kilobytes;
 
 /// How often each work is done where no task is asked for.
 const FEW_TURNS: u64 = 100;
 
+const KINDS: [Kind; 7] = [
+    Kind::Linear,
+    Kind::SpinLock,
+    Kind::Mutex,
+    Kind::Fixed,
+    Kind::FixedNear,
+    Kind::Lazy,
+    Kind::LazyWait,
+];
+
 /// A little of each work. 70 items held fill two pages of a linear pool and a part of a third.
-const WORKS: [&str; 7] = [
-    "pull 0",
-    "pull 70",
-    "pull_owned 0",
-    "pull_owned 70",
-    "share 2 0",
-    "share 4 70",
-    "hold",
+const WORKS: [Work; 7] = [
+    Work::Pull { held: 0 },
+    Work::Pull { held: 70 },
+    Work::PullOwned { held: 0 },
+    Work::PullOwned { held: 70 },
+    Work::Share {
+        threads: 2,
+        held: 0,
+    },
+    Work::Share {
+        threads: 4,
+        held: 70,
+    },
+    Work::Hold,
 ];
 
 /// What is asked of one kind of pool alone.
-const OF_ONE_KIND: [(&str, &str); 5] = [
-    ("linear", "worker 1"),
-    ("fixed", "worker 2"),
-    ("lazy", "worker 4"),
-    ("fixed", "refuse"),
-    ("lazy_wait", "wait 4 1"),
+const OF_ONE_KIND: [(Kind, Work); 5] = [
+    (Kind::Linear, Work::Worker { threads: 1 }),
+    (Kind::Fixed, Work::Worker { threads: 2 }),
+    (Kind::Lazy, Work::Worker { threads: 4 }),
+    (Kind::Fixed, Work::Refuse),
+    (
+        Kind::LazyWait,
+        Work::Wait {
+            threads: 4,
+            items: 1,
+        },
+    ),
 ];
 
 /// Words that ask for no task.
@@ -56,22 +79,31 @@ const OTHER_WORDS: [&str; 9] = [
 ///
 /// # Errors
 ///
-/// If a work is refused what it needs, or words ask for a task that are to ask for none.
+/// If a work is refused what it needs, or a task's own words ask for none.
 pub fn show_each<R: Clock + Threads + Wait + AllocGlobal + Print + Copy + Send + Sync>(
     rt: &R,
 ) -> Result<()> {
-    for (kind, _) in KINDS {
+    for kind in KINDS {
         for work in WORKS {
-            show_sum(rt, kind, work)?;
+            let task = Task {
+                kind,
+                work,
+                turns: FEW_TURNS,
+            };
+            show_sum(rt, task)?;
         }
     }
     for (kind, work) in OF_ONE_KIND {
-        show_sum(rt, kind, work)?;
+        let task = Task {
+            kind,
+            work,
+            turns: FEW_TURNS,
+        };
+        show_sum(rt, task)?;
     }
     for line in OTHER_WORDS {
         let asked = asked_for(rt.alloc(), line)?;
-        ensure!(asked.is_none(), "words ask for a task");
-        println!(rt; "{line:?}: None")?;
+        println!(rt; "{line:?}: {asked:?}")?;
     }
     Ok(())
 }
@@ -82,36 +114,34 @@ fn asked_for(alloc: Global, line: &str) -> Result<Option<Task>> {
     Ok(task_of(&words))
 }
 
-/// Does the task that words ask for, and prints what it gave.
+/// Does the task that a task's own words ask for, and prints what it gave.
 fn show_sum<R: Clock + Threads + Wait + AllocGlobal + Print + Copy + Send + Sync>(
     rt: &R,
-    kind: &str,
-    work: &str,
+    task: Task,
 ) -> Result<()> {
-    let line = format!(in rt.alloc(); "{kind} {work} {}", FEW_TURNS)?;
-    let task = asked_for(rt.alloc(), line.as_str())?.context("the words ask for no task")?;
-    let sum = measure(rt, task)?.sum;
-    println!(rt; "{line}: {sum}")?;
+    let line = format!(in rt.alloc(); "{task}")?;
+    let asked = asked_for(rt.alloc(), line.as_str())?.context("its words ask for no task")?;
+    let sum = measure(rt, asked)?.sum;
+    println!(rt; "{asked}: {sum}")?;
     Ok(())
 }
 
-/// Does the task that the words ask for, and prints what it gave, how many nanoseconds its turns
-/// took, and how much memory the process had at most.
+/// Does a task, and prints what it gave, how many nanoseconds its turns took, and how much memory
+/// the process had at most.
 ///
 /// # Errors
 ///
 /// If the task is refused what it needs.
 pub fn show_time<R: Clock + Files + Threads + Wait + AllocGlobal + Print + Copy + Send + Sync>(
     rt: &R,
-    words: &[&str],
     task: Task,
 ) -> Result<()> {
     let measured = measure(rt, task)?;
     let nanoseconds = measured.time.as_nanos();
     let kilobytes = peak_kilobytes(rt)?;
-    for (index, word) in words.iter().enumerate() {
-        print!(rt; "{}{word}", if index == 0 { "" } else { " " })?;
-    }
-    println!(rt; ": {} in {nanoseconds} ns, {kilobytes} kB", measured.sum)?;
+    println!(rt;
+        "{task}: {} in {nanoseconds} ns, {kilobytes} kB",
+        measured.sum
+    )?;
     Ok(())
 }

@@ -1,6 +1,5 @@
 //! The items of a replay. They tell which call of `init` made them, and count what is done with
 //! them.
-use lockfree_object_pool::PullError;
 use lockfree_object_pool::clean::AnyValue;
 use lockfree_object_pool::closures::{Init, Reset};
 use std::fmt;
@@ -19,6 +18,13 @@ impl fmt::Display for Totals<'_> {
         let dropped = self.tally.drops();
         write!(f, "{made} made, {reset} reset, {dropped} dropped")
     }
+}
+
+/// What is read of an item.
+#[derive(Clone, Copy)]
+pub struct Shown {
+    pub number: u64,
+    pub content: u64,
 }
 
 /// An item, which counts its drop.
@@ -40,6 +46,14 @@ impl Item {
             content: 0,
         })
     }
+
+    /// Returns what the item shows.
+    pub fn shown(&self) -> Shown {
+        Shown {
+            number: self.number,
+            content: self.content,
+        }
+    }
 }
 
 impl Drop for Item {
@@ -53,22 +67,13 @@ impl Drop for Item {
     }
 }
 
-/// Makes items, and numbers them from 0. Counts the resets, and clears what was written, or keeps
-/// it.
+/// Makes items, and numbers them from 0.
 #[derive(Drop)]
-pub struct Maker {
-    tally: Arc<Tally>,
-    clears: bool,
+pub struct Numbered {
+    pub tally: Arc<Tally>,
 }
 
-impl Maker {
-    pub fn new(tally: &Arc<Tally>, clears: bool) -> Result<Maker, PullError> {
-        let tally = Arc::try_clone(tally)?;
-        Ok(Maker { tally, clears })
-    }
-}
-
-impl Init<Item, AnyValue> for Maker {
+impl Init<Item, AnyValue> for Numbered {
     fn make(&self) -> Option<Item> {
         let number = self.tally.next_call();
         self.tally.count_made();
@@ -76,7 +81,14 @@ impl Init<Item, AnyValue> for Maker {
     }
 }
 
-impl Reset<Item, AnyValue> for Maker {
+/// Counts the resets, and clears what was written, or keeps it.
+#[derive(Drop)]
+pub struct Restore {
+    pub tally: Arc<Tally>,
+    pub clears: bool,
+}
+
+impl Reset<Item, AnyValue> for Restore {
     fn reset(&self, item: &mut Item) {
         self.tally.count_reset();
         if self.clears {

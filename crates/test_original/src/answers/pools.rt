@@ -2,8 +2,10 @@
 ghost use Rattle.std.specs.Prelude.{⊤};
 ghost use Rattle.std.specs.Arc.{arc_value};
 
-use super::item::{Item, Maker};
+use super::held::{Given, Place, Source};
+use super::item::{Item, Numbered, Restore};
 use lockfree_object_pool::clean::AnyValue;
+use lockfree_object_pool::closures::{Init, Reset};
 use lockfree_object_pool::free_list::FreeList;
 use lockfree_object_pool::made_or_reset::MadeOrReset;
 use lockfree_object_pool::stack_object_pool::StackObjectPool;
@@ -14,121 +16,104 @@ use lockfree_object_pool::{
 use std::ops::DerefMut;
 use std::sync::{Arc, Wait};
 
-pub type Linear = LinearObjectPool<Item, Maker, Maker, AnyValue>;
-
 /// What a stack pool keeps.
-pub type StackedItems = MadeOrReset<Maker, Maker, AnyValue>;
+pub type StackedItems = MadeOrReset<Numbered, Restore, AnyValue>;
 
-pub type Stacked<F> = StackObjectPool<Item, Maker, Maker, AnyValue, F>;
+pub type Stacked<F> = StackObjectPool<Item, Numbered, Restore, AnyValue, F>;
 
-/// An item that is held, under a borrow of its pool or with an owner of it.
-#[derive(Drop)]
-pub enum Held<A, B> {
-    Borrowed(A),
-    Owned(B),
-}
-
-impl<A: DerefMut<Target = Item>, B: DerefMut<Target = Item>> Held<A, B> {
-    /// Returns the item.
-    pub fn item(&mut self) -> &mut Item {
-        match self {
-            Held::Borrowed(item) => &mut **item,
-            Held::Owned(item) => &mut **item,
-        }
-    }
-}
-
-/// Where an item lies in a linear pool: its page, and its place there.
-pub type Place = (usize, u8);
-
-/// A pool that has owners.
+/// A reference to a pool, which gives borrowed items, or an owner of one, which gives owned items.
 pub trait Gives<R> {
-    type Borrowed: DerefMut<Target = Item> + Drop;
-
-    type Owned: DerefMut<Target = Item> + Drop;
+    type Came: DerefMut<Target = Item> + Drop;
 
     /// It may be asked at any time.
     ghost may_give: { Self → Type 0 } = { λ _. ⊤ };
 
-    /// Gives an item, with an owner or under a borrow of the pool, and where it lies, if the pool
-    /// tells. It is pulled, or the caller's, attached to the pool. `None` is a refusal.
-    fn give(
-        &self,
-        rt: &R,
-        is_owned: bool,
-        attached: Option<Item>,
-    ) -> Option<(Held<Self::Borrowed, Self::Owned>, Option<Place>)>
+    /// Gives an item. `None` is a refusal.
+    fn give(&self, rt: &R, source: Source) -> Option<Given<Self::Came>>
         requires { may_give self.now };
 }
 
 /// A linear pool attaches no item.
-impl<'p, R> Gives<R> for &'p Arc<Linear> {
-    type Borrowed = LinearReusable<'p, Item, Maker, Maker, AnyValue>;
+impl<'p, I: Init<Item, AnyValue>, S: Reset<Item, AnyValue>, R> Gives<R>
+    for &'p LinearObjectPool<Item, I, S, AnyValue> {
+    type Came = LinearReusable<'p, Item, I, S, AnyValue>;
 
-    type Owned = LinearOwnedReusable<Item, Maker, Maker, AnyValue>;
-
-    fn give(
-        &self,
-        _rt: &R,
-        is_owned: bool,
-        attached: Option<Item>,
-    ) -> Option<(Held<Self::Borrowed, Self::Owned>, Option<Place>)> {
-        if attached.is_some() {
+    fn give(&self, _rt: &R, source: Source) -> Option<Given<Self::Came>> {
+        let Source::Pool = source else {
             return None;
-        }
-        if is_owned {
-            let item = self.pull_owned().ok()?;
-            let place = (item.page_number(), item.page_id());
-            return Some((Held::Owned(item), Some(place)));
-        }
+        };
         let item = self.pull().ok()?;
-        let place = (item.page_number(), item.page_id());
-        Some((Held::Borrowed(item), Some(place)))
+        let (page, id) = (item.page_number(), item.page_id());
+        let place = Some(Place { page, id });
+        Some(Given { item, place })
     }
 }
 
-impl<'p, F: FreeList<Item, StackedItems>, R: Wait + Copy> Gives<R> for &'p Arc<Stacked<F>> {
-    type Borrowed = StackReusable<Item, &'p Stacked<F>, R>;
+impl<I: Init<Item, AnyValue>, S: Reset<Item, AnyValue>, R> Gives<R>
+    for Arc<LinearObjectPool<Item, I, S, AnyValue>> {
+    type Came = LinearOwnedReusable<Item, I, S, AnyValue>;
 
-    type Owned = StackReusable<Item, Arc<Stacked<F>>, R>;
+    fn give(&self, _rt: &R, source: Source) -> Option<Given<Self::Came>> {
+        let Source::Pool = source else {
+            return None;
+        };
+        let item = self.pull_owned().ok()?;
+        let (page, id) = (item.page_number(), item.page_id());
+        let place = Some(Place { page, id });
+        Some(Given { item, place })
+    }
+}
 
-    fn give(
-        &self,
-        rt: &R,
-        is_owned: bool,
-        attached: Option<Item>,
-    ) -> Option<(Held<Self::Borrowed, Self::Owned>, Option<Place>)> {
-        let pool: &'p Arc<Stacked<F>> = self;
-        let held = match (attached, is_owned) {
-            (None, false) => Held::Borrowed(pool.pull(rt).ok()?),
-            (None, true) => Held::Owned(pool.pull_owned(rt).ok()?),
-            (Some(item), false) => Held::Borrowed(StackReusable::new(rt, &**pool, item).ok()?),
-            (Some(item), true) => {
-                Held::Owned(StackReusable::new(rt, Arc::try_clone(pool).ok()?, item).ok()?)
+impl<F: FreeList<Item, StackedItems>, R: Wait + Copy> Gives<R> for &Stacked<F> {
+    type Came = StackReusable<Item, Self, R>;
+
+    fn give(&self, rt: &R, source: Source) -> Option<Given<Self::Came>> {
+        let item = match source {
+            Source::Pool => self.pull(rt).ok()?,
+            Source::Caller(item) => StackReusable::new(rt, *self, item).ok()?,
+        };
+        Some(Given::nowhere(item))
+    }
+}
+
+impl<F: FreeList<Item, StackedItems>, R: Wait + Copy> Gives<R> for Arc<Stacked<F>> {
+    type Came = StackReusable<Item, Self, R>;
+
+    fn give(&self, rt: &R, source: Source) -> Option<Given<Self::Came>> {
+        let item = match source {
+            Source::Pool => self.pull_owned(rt).ok()?,
+            Source::Caller(item) => {
+                StackReusable::new(rt, Arc::try_clone(self).ok()?, item).ok()?
             }
         };
-        Some((held, None))
+        Some(Given::nowhere(item))
+    }
+}
+
+impl<I: Fn() -> Option<Item>, R> Gives<R> for &NoneObjectPool<Item, I> {
+    type Came = NoneReusable<Item>;
+
+    ghost may_give = { λ pool. I.pre pool.now };
+
+    fn give(&self, _rt: &R, source: Source) -> Option<Given<Self::Came>> {
+        let item = match source {
+            Source::Pool => self.pull().ok()?,
+            Source::Caller(item) => NoneReusable::new(item),
+        };
+        Some(Given::nowhere(item))
     }
 }
 
 impl<I: Fn() -> Option<Item>, R> Gives<R> for Arc<NoneObjectPool<Item, I>> {
-    type Borrowed = NoneReusable<Item>;
-
-    type Owned = NoneReusable<Item>;
+    type Came = NoneReusable<Item>;
 
     ghost may_give = { λ pool. I.pre (arc_value pool) };
 
-    fn give(
-        &self,
-        _rt: &R,
-        is_owned: bool,
-        attached: Option<Item>,
-    ) -> Option<(Held<Self::Borrowed, Self::Owned>, Option<Place>)> {
-        let item = match (attached, is_owned) {
-            (None, false) => self.pull().ok()?,
-            (None, true) => self.pull_owned().ok()?,
-            (Some(item), _) => NoneReusable::new(item),
+    fn give(&self, _rt: &R, source: Source) -> Option<Given<Self::Came>> {
+        let item = match source {
+            Source::Pool => self.pull_owned().ok()?,
+            Source::Caller(item) => NoneReusable::new(item),
         };
-        Some((Held::Owned(item), None))
+        Some(Given::nowhere(item))
     }
 }

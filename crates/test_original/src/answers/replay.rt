@@ -1,110 +1,163 @@
 //! Calls are read and done one after another, and each is answered.
-use super::item::{Item, Totals};
-use super::pools::{Gives, Held};
-use anyhow::{Context, Result, bail, ensure};
+use super::call::{Call, Origin, call_of};
+use super::held::{Given, Held, Place, Source};
+use super::item::{Item, Shown, Totals};
+use super::pools::Gives;
+use anyhow::{Context, Result, ensure};
+use std::alloc::Global;
 use std::io::{BufRead, BufReader, BufWriter, Write};
 use std::ops::DerefMut;
 use std::sync::Arc;
-use std::{io, mem};
+use std::{fmt, io, mem};
 use test_values::tally::Tally;
 
-/// The items that are held. A call names them by their places: each that comes is added last, and
-/// where one goes, the last takes its place.
-type AllHeld<P, R> = Vec<Held<<P as Gives<R>>::Borrowed, <P as Gives<R>>::Owned>>;
+/// What a call gave.
+#[derive(Clone, Copy)]
+enum Answer {
+    /// An item came.
+    Came(Shown, Option<Place>),
+    /// The pool has no item to give, or attaches none.
+    Refused,
+    /// What was written to the item before.
+    Was(u64),
+    /// The item went.
+    Went,
+}
+
+impl fmt::Display for Answer {
+    fn fmt<W: fmt::Write>(&self, f: &mut fmt::Formatter<W>) -> fmt::Result {
+        match self {
+            Answer::Came(Shown { number, content }, None) => write!(
+                f,
+                "item {number} has {content}"
+            ),
+            Answer::Came(Shown { number, content }, Some(Place { page, id })) => {
+                write!(f, "item {number} at {page} {id} has {content}")
+            }
+            Answer::Refused => f.write_str("refused"),
+            Answer::Was(content) => write!(f, "had {content}"),
+            Answer::Went => f.write_str("went"),
+        }
+    }
+}
 
 /// Does the calls of standard input, and answers each by a line, with the counts. At the end the
 /// held items are dropped.
-pub fn replay<R: Input + Print + AllocGlobal, P: Gives<R>>(
+pub fn replay<R: Input + Print + AllocGlobal, P: Gives<R>, Q: Gives<R>>(
     rt: &R,
     tally: &Arc<Tally>,
-    pool: &P,
+    borrowed: &P,
+    owned: &Q,
 ) -> Result<()>
-    requires { P.may_give pool.now }
+    requires borrowed { P.may_give borrowed.now }
+    requires owned { Q.may_give owned.now }
 {
-    let mut held: AllHeld<P, R> = Vec::new(rt.alloc());
+    let mut held = Vec::new(rt.alloc());
     let mut output = BufWriter::new(rt.alloc(), io::writer(rt))?;
     for line in BufReader::new(rt.alloc(), rt.reader())?.lines(rt.alloc()) {
-        let line = line?;
-        let words: Vec<&str> = line.split_whitespace().collect(rt.alloc())?;
-        answer(rt, tally, pool, &mut held, &words, &mut output)?;
-        writeln!(output, ": {}", Totals { tally })?;
+        let call = call_in(rt.alloc(), line)?;
+        let answer = answer_to(rt, tally, borrowed, owned, &mut held, call)?;
+        show(&mut output, &answer, tally)?;
     }
     output.flush()?;
     Ok(())
 }
 
-/// Does the call that a line writes, and tells what it gave. An item that comes is held.
-fn answer<R, P: Gives<R>, W: Write>(
+/// Writes an answer, and the counts.
+fn show<W: Write>(output: &mut W, answer: &Answer, tally: &Tally) -> Result<()> {
+    writeln!(output, "{answer}: {}", Totals { tally })?;
+    Ok(())
+}
+
+/// The call that a line writes.
+fn call_in(alloc: Global, line: io::Result<String>) -> Result<Call> {
+    let line = line?;
+    let words: Vec<&str> = line.split_whitespace().collect(alloc)?;
+    call_of(&words).context("a line is no call")
+}
+
+/// Does a call, and returns its answer.
+fn answer_to<R, P: Gives<R>, Q: Gives<R>>(
     rt: &R,
     tally: &Arc<Tally>,
-    pool: &P,
-    held: &mut AllHeld<P, R>,
-    words: &[&str],
-    output: &mut W,
-) -> Result<()>
-    requires { P.may_give pool.now }
+    borrowed: &P,
+    owned: &Q,
+    held: &mut Vec<Held<P::Came, Q::Came>>,
+    call: Call,
+) -> Result<Answer>
+    requires borrowed { P.may_give borrowed.now }
+    requires owned { Q.may_give owned.now }
 {
-    let (is_owned, attached) = match words {
-        ["pull"] => (false, None),
-        ["pull_owned"] => (true, None),
-        ["attach", number] => (false, Some(item_of(tally, number)?)),
-        ["attach_owned", number] => (true, Some(item_of(tally, number)?)),
-        _ => return use_held(held, words, output),
-    };
-    let Some((mut given, place)) = pool.give(rt, is_owned, attached) else {
-        write!(output, "refused")?;
-        return Ok(());
-    };
-    let item = given.item();
-    write!(output, "item {}", item.number)?;
-    if let Some((page, id)) = place {
-        write!(output, " at {page} {id}")?;
+    match call {
+        Call::Borrow(origin) => {
+            let source = source_of(tally, origin)?;
+            hold_borrowed(held, borrowed.give(rt, source))
+        }
+        Call::Own(origin) => {
+            let source = source_of(tally, origin)?;
+            hold_owned(held, owned.give(rt, source))
+        }
+        Call::Write { place, content } => write(held, place, content),
+        Call::Drop(place) => let_go(held, place, false),
+        Call::Forget(place) => let_go(held, place, true),
     }
-    write!(output, " has {}", item.content)?;
-    held.push(given)?;
-    Ok(())
 }
 
-/// Does a call on an item that is held.
-fn use_held<A: DerefMut<Target = Item> + Drop, B: DerefMut<Target = Item> + Drop, W: Write>(
+/// What a pool is asked for.
+fn source_of(tally: &Arc<Tally>, origin: Origin) -> Result<Source> {
+    match origin {
+        Origin::Pool => Ok(Source::Pool),
+        Origin::Caller(number) => {
+            let item = Item::new(tally, number).context("the counts have no more owners")?;
+            Ok(Source::Caller(item))
+        }
+    }
+}
+
+/// Holds an item that came under a borrow.
+fn hold_borrowed<A: DerefMut<Target = Item> + Drop, B: Drop>(
     held: &mut Vec<Held<A, B>>,
-    words: &[&str],
-    output: &mut W,
-) -> Result<()> {
-    match words {
-        ["write", place, content] => {
-            let content = number_of(content)?;
-            let place = number_of(place)? as usize;
-            let held = held.get_mut(place).context("no such item")?;
-            let before = mem::replace(&mut held.item().content, content);
-            write!(output, "had {before}")?;
-        }
-        ["drop", place] => {
-            drop(taken(held, place)?);
-            write!(output, "went")?;
-        }
-        ["forget", place] => {
-            mem::forget(taken(held, place)?);
-            write!(output, "went")?;
-        }
-        _ => bail!("a line is no call"),
-    }
-    Ok(())
+    given: Option<Given<A>>,
+) -> Result<Answer> {
+    let Some(Given { item, place }) = given else {
+        return Ok(Answer::Refused);
+    };
+    let shown = item.shown();
+    held.push(Held::Borrowed(item))?;
+    Ok(Answer::Came(shown, place))
 }
 
-/// The number that a word writes.
-fn number_of(word: &str) -> Result<u64> {
-    word.parse().ok().context("a line is no call")
+/// Holds an item that came with an owner.
+fn hold_owned<A: Drop, B: DerefMut<Target = Item> + Drop>(
+    held: &mut Vec<Held<A, B>>,
+    given: Option<Given<B>>,
+) -> Result<Answer> {
+    let Some(Given { item, place }) = given else {
+        return Ok(Answer::Refused);
+    };
+    let shown = item.shown();
+    held.push(Held::Owned(item))?;
+    Ok(Answer::Came(shown, place))
 }
 
-/// An item that is to be attached.
-fn item_of(tally: &Arc<Tally>, number: &str) -> Result<Item> {
-    Item::new(tally, number_of(number)?).context("the counts have no more owners")
+/// Writes to the item at a place.
+fn write<A: DerefMut<Target = Item>, B: DerefMut<Target = Item>>(
+    held: &mut Vec<Held<A, B>>,
+    place: usize,
+    content: u64,
+) -> Result<Answer> {
+    let item = held.get_mut(place).context("no such item")?;
+    Ok(Answer::Was(item.write(content)))
 }
 
-/// Takes the item at a place.
-fn taken<H: Drop>(held: &mut Vec<H>, place: &str) -> Result<H> {
-    let place = number_of(place)? as usize;
+/// Drops or forgets the item at a place, which the last one takes.
+fn let_go<H: Drop>(held: &mut Vec<H>, place: usize, is_forgotten: bool) -> Result<Answer> {
     ensure!(place < held.len(), "no such item");
-    Ok(held.swap_remove(place))
+    let item = held.swap_remove(place);
+    if is_forgotten {
+        mem::forget(item);
+    } else {
+        drop(item);
+    }
+    Ok(Answer::Went)
 }

@@ -1,10 +1,13 @@
 //! A task is done on a new pool, and its turns are timed.
 ghost use Rattle.std.specs.Prelude.{◌≤◌};
 
-use super::pulls::{Fixed, Lazy, Linear, Near, Pulls, Stack, Stacked, Waiting, Zero};
+use super::pulls::{Fixed, Lazy, Linear, Near, Pulls, Stack, Stacked, Waiting, WaitingOwner, Zero};
 use super::task::{Kind, Task, Work};
-use super::turns::{HasWorkers, be_refused, hold, pull_and_drop, total};
+use super::turns::{be_refused, hold, pull_and_drop, total};
+use super::workers::HasWorkers;
+use crate::shared::shared;
 use anyhow::Result;
+use lockfree_object_pool::clean::AnyValue;
 use lockfree_object_pool::free_list::FreeList;
 use lockfree_object_pool::{
     FixedObjectPool, LazyObjectPool, LinearObjectPool, MutexObjectPool, PullError,
@@ -38,39 +41,23 @@ pub fn measure<R: Clock + Threads + Wait + AllocGlobal + Copy + Send + Sync>(
     rt: &R,
     task: Task,
 ) -> Result<Measured> {
-    let alloc = rt.alloc();
-    let (init, reset) = (Zero::new(0), Zero::new(0));
-    if let Work::Worker(threads) = task.work {
+    if let Work::Worker { threads } = task.work {
         return measure_workers(rt, task, threads);
     }
     match task.kind {
-        Kind::Linear => {
-            let pool = new_linear(alloc)?;
-            measure_pulls(rt, task, &&*pool, &pool)
+        Kind::Linear => measure_linear(rt, task),
+        Kind::SpinLock => {
+            let pool = new_spin_lock(rt.alloc())?;
+            measure_stack(rt, task, &pool)
         }
-        Kind::SpinLock => { measure_stack(rt, task, SpinLockObjectPool::new(alloc, init, reset)?) }
-        Kind::Mutex => measure_stack(rt, task, MutexObjectPool::new(alloc, init, reset)),
-        Kind::Fixed => {
-            let pool = new_fixed(alloc, task)?;
-            measure_pulls(rt, task, &&*pool, &pool)
+        Kind::Mutex => {
+            let pool = new_mutex(rt.alloc())?;
+            measure_stack(rt, task, &pool)
         }
-        Kind::FixedNear => {
-            let pool = new_fixed(alloc, task)?;
-            measure_pulls(rt, task, &Near { pool: &pool }, &pool)
-        }
-        Kind::Lazy => {
-            let pool = new_lazy(alloc, task)?;
-            measure_pulls(rt, task, &&*pool, &pool)
-        }
-        Kind::LazyWait => {
-            let pool = new_lazy(alloc, task)?;
-            measure_pulls(
-                rt,
-                task,
-                &Waiting { pool: &*pool },
-                &Waiting { pool: &pool },
-            )
-        }
+        Kind::Fixed => measure_fixed(rt, task),
+        Kind::FixedNear => measure_fixed_near(rt, task),
+        Kind::Lazy => measure_lazy(rt, task),
+        Kind::LazyWait => measure_lazy_waiting(rt, task),
     }
 }
 
@@ -94,84 +81,162 @@ fn items_of(task: Task) -> usize
 {
     match task.work {
         Work::Hold => (task.turns as usize).max(FIXED_ITEMS),
-        Work::Wait(_, items) => items.max(1),
+        Work::Wait { threads: _, items } => items.max(1),
         _ => FIXED_ITEMS,
     }
 }
 
-// Functions of their own make the pools, which know of memory alone: each step of a function that is
-// generic in what a program may do costs its proof more.
+fn measure_linear<R: Clock + Threads + AllocGlobal + Sync>(rt: &R, task: Task) -> Result<Measured> {
+    let pool = new_linear(rt.alloc())?;
+    measure_pulls(rt, task, &&*pool, &pool)
+}
 
 fn new_linear(alloc: Global) -> Result<Arc<Linear>, PullError> {
-    let pool = LinearObjectPool::new(alloc, Zero::new(0), Zero::new(0))?;
-    Ok(Arc::new(alloc, pool)?)
-}
-
-fn new_fixed(alloc: Global, task: Task) -> Result<Arc<Fixed>, PullError> {
-    let pool = FixedObjectPool::new(alloc, Zero::new(0), Zero::new(0), items_of(task))?;
-    Ok(Arc::new(alloc, pool)?)
-}
-
-fn new_lazy(alloc: Global, task: Task) -> Result<Arc<Lazy>, PullError> {
-    let pool = LazyObjectPool::new(alloc, Zero::new(0), Zero::new(0), items_of(task))?;
-    Ok(Arc::new(alloc, pool)?)
+    shared(
+        alloc,
+        LinearObjectPool::new(alloc, Zero::new(0), Zero::new(0))?,
+    )
 }
 
 fn measure_stack<
     R: Clock + Threads + Wait + AllocGlobal + Copy + Send + Sync,
     F: FreeList<u64, Stacked> + Send + Sync,
->(rt: &R, task: Task, pool: Stack<F>) -> Result<Measured> {
-    let pool = Arc::new(rt.alloc(), pool)?;
+>(rt: &R, task: Task, pool: &Arc<Stack<F>>) -> Result<Measured> {
+    measure_pulls(rt, task, &&**pool, pool)
+}
+
+fn new_spin_lock(
+    alloc: Global,
+) -> Result<Arc<SpinLockObjectPool<u64, Zero, Zero, AnyValue>>, PullError> {
+    shared(
+        alloc,
+        SpinLockObjectPool::new(alloc, Zero::new(0), Zero::new(0))?,
+    )
+}
+
+fn new_mutex(alloc: Global) -> Result<Arc<MutexObjectPool<u64, Zero, Zero, AnyValue>>, PullError> {
+    shared(
+        alloc,
+        MutexObjectPool::new(alloc, Zero::new(0), Zero::new(0)),
+    )
+}
+
+fn measure_fixed<R: Clock + Threads + AllocGlobal + Sync>(rt: &R, task: Task) -> Result<Measured> {
+    let pool = new_fixed(rt.alloc(), task)?;
     measure_pulls(rt, task, &&*pool, &pool)
 }
 
-/// Does the task by the two ways to pull. Threads share the first of them. What is held beside the
-/// turns is pulled before, and all that is held is dropped behind the measured time.
+/// Each thread begins at a page of its own, whose word shares no cache line with another thread's.
+fn measure_fixed_near<R: Clock + Threads + AllocGlobal + Sync>(
+    rt: &R,
+    task: Task,
+) -> Result<Measured> {
+    let pool = new_fixed(rt.alloc(), task)?;
+    measure_pulls(rt, task, &Near { pool: &pool }, &pool)
+}
+
+fn new_fixed(alloc: Global, task: Task) -> Result<Arc<Fixed>, PullError> {
+    let items = items_of(task);
+    shared(
+        alloc,
+        FixedObjectPool::new(alloc, Zero::new(0), Zero::new(0), items)?,
+    )
+}
+
+fn measure_lazy<R: Clock + Threads + AllocGlobal + Sync>(rt: &R, task: Task) -> Result<Measured> {
+    let pool = new_lazy(rt.alloc(), task)?;
+    measure_pulls(rt, task, &&*pool, &pool)
+}
+
+/// The lazy pool by pulls that wait.
+fn measure_lazy_waiting<R: Clock + Threads + Wait + AllocGlobal + Sync>(
+    rt: &R,
+    task: Task,
+) -> Result<Measured> {
+    let pool = new_lazy(rt.alloc(), task)?;
+    measure_pulls(
+        rt,
+        task,
+        &Waiting { pool: &pool },
+        &WaitingOwner { pool: &pool },
+    )
+}
+
+fn new_lazy(alloc: Global, task: Task) -> Result<Arc<Lazy>, PullError> {
+    let items = items_of(task);
+    shared(
+        alloc,
+        LazyObjectPool::new(alloc, Zero::new(0), Zero::new(0), items)?,
+    )
+}
+
+/// Does the task by the two ways to pull. Threads share the first of them.
 fn measure_pulls<R: Clock + Threads + AllocGlobal + Sync, P: Pulls<R> + Sync, Q: Pulls<R>>(
     rt: &R,
     task: Task,
     pool: &P,
     owner: &Q,
 ) -> Result<Measured> {
-    let Task {
-        kind: _,
-        work,
-        turns,
-    } = task;
-    let (held, owned, new) = match work {
-        Work::Pull(held) | Work::Share(_, held) => (held, 0, 0),
-        Work::PullOwned(owned) => (0, owned, 0),
-        Work::Refuse => (FIXED_ITEMS, 0, 0),
-        Work::Hold => (0, 0, turns as usize),
-        Work::Wait(..) | Work::Worker(_) => (0, 0, 0),
-    };
-    let _held = hold(rt, rt.alloc(), pool, held)?;
-    let _owned = hold(rt, rt.alloc(), owner, owned)?;
-    let start = Instant::now(rt)?;
-    let items = hold(rt, rt.alloc(), pool, new)?;
-    let sum = match work {
-        Work::Pull(_) => pull_and_drop(rt, pool, 0, turns)?,
-        Work::PullOwned(_) => pull_and_drop(rt, owner, 0, turns)?,
-        Work::Share(threads, _) | Work::Wait(threads, _) | Work::Worker(threads) => {
-            share(rt, pool, threads, turns)?
+    match task.work {
+        Work::Pull { held } => measure_turns(rt, pool, held, task.turns),
+        Work::PullOwned { held } => measure_turns(rt, owner, held, task.turns),
+        Work::Share { threads, held } => {
+            let _held = hold(rt, rt.alloc(), pool, held)?;
+            measure_share(rt, pool, threads, task.turns)
         }
-        Work::Refuse => be_refused(rt, pool, turns),
-        Work::Hold => items.len() as u64,
-    };
+        Work::Wait { threads, items: _ } | Work::Worker { threads } => {
+            measure_share(rt, pool, threads, task.turns)
+        }
+        Work::Refuse => measure_refusals(rt, pool, task.turns),
+        Work::Hold => measure_hold(rt, pool, task.turns as usize),
+    }
+}
+
+/// So many items are pulled and held.
+fn measure_hold<R: Clock + AllocGlobal, P: Pulls<R>>(
+    rt: &R,
+    pool: &P,
+    count: usize,
+) -> Result<Measured> {
+    let start = Instant::now(rt)?;
+    let items = hold(rt, rt.alloc(), pool, count)?;
     let time = start.elapsed(rt)?;
-    Ok(Measured { sum, time })
+    Ok(Measured {
+        sum: items.len() as u64,
+        time,
+    })
+}
+
+/// Pulls that are refused, while each item of the pool is held.
+fn measure_refusals<R: Clock + AllocGlobal, P: Pulls<R>>(
+    rt: &R,
+    pool: &P,
+    turns: u64,
+) -> Result<Measured> {
+    let _held = hold(rt, rt.alloc(), pool, FIXED_ITEMS)?;
+    let start = Instant::now(rt)?;
+    let sum = be_refused(rt, pool, turns);
+    Ok(Measured {
+        sum,
+        time: start.elapsed(rt)?,
+    })
 }
 
 /// The turns of so many threads, beside each other.
-fn share<R: Threads + AllocGlobal + Sync, P: Pulls<R> + Sync>(
+fn measure_share<R: Clock + Threads + AllocGlobal + Sync, P: Pulls<R> + Sync>(
     rt: &R,
     pool: &P,
     threads: usize,
     turns: u64,
-) -> Result<u64> {
+) -> Result<Measured> {
     let one_thread = |thread: usize| pull_and_drop(rt, pool, thread, turns);
+    let start = Instant::now(rt)?;
     let sums = thread::map_indices(rt, rt.alloc(), threads, &one_thread)?;
-    Ok(total(sums)?)
+    let time = start.elapsed(rt)?;
+    Ok(Measured {
+        sum: total(sums)?,
+        time,
+    })
 }
 
 /// The turns of so many workers, beside each other.
@@ -184,7 +249,25 @@ fn measure_work<R: Clock + Threads + AllocGlobal + Sync, P: HasWorkers + Sync>(
     let one_worker = |_: usize| pool.work(turns);
     let start = Instant::now(rt)?;
     let sums = thread::map_indices(rt, rt.alloc(), threads, &one_worker)?;
-    let sum = total(sums)?;
     let time = start.elapsed(rt)?;
-    Ok(Measured { sum, time })
+    Ok(Measured {
+        sum: total(sums)?,
+        time,
+    })
+}
+
+/// One thread's turns, while so many other items are held.
+fn measure_turns<R: Clock + AllocGlobal, P: Pulls<R>>(
+    rt: &R,
+    pool: &P,
+    held: usize,
+    turns: u64,
+) -> Result<Measured> {
+    let _held = hold(rt, rt.alloc(), pool, held)?;
+    let start = Instant::now(rt)?;
+    let sum = pull_and_drop(rt, pool, 0, turns)?;
+    Ok(Measured {
+        sum,
+        time: start.elapsed(rt)?,
+    })
 }

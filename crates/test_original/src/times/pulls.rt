@@ -97,13 +97,13 @@ impl<R> Pulls<R> for Arc<Lazy> {
     }
 }
 
-/// A lazy pool, or an owner of it, by pulls that wait.
+/// A lazy pool by pulls that wait.
 #[derive(Clone, Copy)]
-pub struct Waiting<P> {
-    pub pool: P,
+pub struct Waiting<'p> {
+    pub pool: &'p Lazy,
 }
 
-impl<'p, R: Wait> Pulls<R> for Waiting<&'p Lazy> {
+impl<'p, R: Wait> Pulls<R> for Waiting<'p> {
     type Item = LazyReusable<'p, u64, Zero, Zero, AnyValue>;
 
     fn pull_one(&self, rt: &R, _thread: usize) -> Result<Self::Item, PullError> {
@@ -111,7 +111,13 @@ impl<'p, R: Wait> Pulls<R> for Waiting<&'p Lazy> {
     }
 }
 
-impl<R: Wait> Pulls<R> for Waiting<&Arc<Lazy>> {
+/// The same by owned pulls.
+#[derive(Clone, Copy)]
+pub struct WaitingOwner<'p> {
+    pub pool: &'p Arc<Lazy>,
+}
+
+impl<R: Wait> Pulls<R> for WaitingOwner<'_> {
     type Item = LazyOwnedReusable<u64, Zero, Zero, AnyValue>;
 
     fn pull_one(&self, rt: &R, _thread: usize) -> Result<Self::Item, PullError> {

@@ -1,8 +1,8 @@
 //! The turns of each work, on any pool.
 ghost use Rattle.std.specs.Prelude.{◌≡◌, IfOk, vec_len};
 
-use super::pulls::{Fixed, Lazy, Linear, Pulls};
-use lockfree_object_pool::{PullError, Worker, WorkerPlace};
+use super::pulls::Pulls;
+use lockfree_object_pool::PullError;
 use std::alloc::Global;
 
 /// A sum of what items were, or why a pull had none.
@@ -54,39 +54,4 @@ pub fn total(sums: Vec<Sum>) -> Sum {
         total = total.wrapping_add(sum?);
     }
     Ok(total)
-}
-
-/// A pool that has workers.
-pub trait HasWorkers {
-    /// Does so many turns by one more worker.
-    fn work(&self, turns: u64) -> Sum;
-}
-
-impl HasWorkers for Linear {
-    fn work(&self, turns: u64) -> Sum {
-        work(&Worker::new(self), turns)
-    }
-}
-
-impl HasWorkers for Fixed {
-    fn work(&self, turns: u64) -> Sum {
-        work(&Worker::new(self.near()), turns)
-    }
-}
-
-impl HasWorkers for Lazy {
-    fn work(&self, turns: u64) -> Sum {
-        work(&Worker::new(self.near()), turns)
-    }
-}
-
-/// Does what `pull_and_drop` does, by a worker.
-fn work<P: WorkerPlace<u64>>(worker: &Worker<u64, P>, turns: u64) -> Sum {
-    let mut sum = 0u64;
-    for turn in 0..turns {
-        let mut item = worker.pull()?;
-        *item = item.wrapping_add(turn);
-        sum = sum.wrapping_add(*item);
-    }
-    Ok(sum)
 }
