@@ -4,14 +4,10 @@ ghost use Rattle.std.specs.Global.{Vec};
 ghost use Rattle.object_pool_cores.specs.Buffers.{bytes_of};
 
 use crate::assert_equal::assert_equal;
-use crate::values::{AMPLE, Memory};
 use object_pool_cores::buffers::*;
 use pool_parts::PullError;
 use pool_parts::closures::{Init, InitBy, Makes, ResetBy, Resets};
-use rows::asked_again;
-use rows::refusals::Refusals;
 use std::alloc::Global;
-use std::fmt::Debug;
 use std::process::Abort;
 use std::sync::Arc;
 use std::thread;
@@ -22,9 +18,10 @@ const MOST_TURNS: u32 = 10_000_000;
 /// A pool that needs no closures.
 type ReadyPool = BufferPool<WithCapacity, Clear>;
 
-/// Creates a pool of at most so many pages, whose buffers have room for so many bytes.
-fn made_pool(alloc: Global, pages: usize, room: usize) -> Result<ReadyPool, PullError> {
-    BufferPool::new(alloc, WithCapacity::new(alloc, room), Clear, pages.max(1))
+/// Creates a pool of at most so many pages, whose buffers have room for 16 bytes.
+fn made_pool(rt: &(impl Abort + AllocGlobal), pages: usize) -> ReadyPool {
+    let init = WithCapacity::new(rt.alloc(), 16);
+    BufferPool::new(rt.alloc(), init, Clear, pages.max(1)).expect(rt, "a pool is made")
 }
 
 /// What a buffer holds after two appends, and what the same room holds when it is pulled again.
@@ -78,7 +75,7 @@ fn pulled_by<I: InitBy<Vec<u8>>, R: ResetBy<Vec<u8>>>(
 
 #[test]
 fn a_buffer_holds_what_was_appended_and_comes_again_empty(rt: HostRuntime) {
-    let pool = made_pool(rt.alloc(), 1, 16).expect(&rt, "a pool is made");
+    let pool = made_pool(&rt, 1);
     let (written, again) = written_and_pulled(rt.alloc(), &pool).expect(&rt, "nothing is refused");
     assert_equal(&rt, (written.as_slice(), again), (b"abc".as_slice(), 0));
     let mut buffer = pool.pull().expect(&rt, "an item is free");
@@ -127,8 +124,7 @@ fn pulled_at_last(pool: &ReadyPool) -> Option<Buffer<'_, WithCapacity, Clear>> {
 
 #[test]
 fn five_threads_find_each_buffer_empty(rt: HostRuntime) {
-    let pool = made_pool(rt.alloc(), 1, 16).expect(&rt, "a pool is made");
-    let pool = Arc::new(rt.alloc(), pool).expect(&rt, "memory is left");
+    let pool = Arc::new(rt.alloc(), made_pool(&rt, 1)).expect(&rt, "memory is left");
     let mut threads = Vec::with_capacity(rt.alloc(), 5).expect(&rt, "memory is left");
     for _ in 0..5 {
         let pool = Arc::try_clone(&pool).expect(&rt, "memory is left");
@@ -143,7 +139,7 @@ fn five_threads_find_each_buffer_empty(rt: HostRuntime) {
 
 #[test]
 fn the_greatest_limit_needs_no_memory_beforehand(rt: HostRuntime) {
-    let pool = made_pool(rt.alloc(), usize::MAX, 16).expect(&rt, "a pool is made");
+    let pool = made_pool(&rt, usize::MAX);
     let buffer = pool.pull().expect(&rt, "an item is free");
     assert_equal(&rt, (buffer.page_number(), buffer.page_id()), (0, 0));
 }
@@ -152,78 +148,43 @@ fn the_greatest_limit_needs_no_memory_beforehand(rt: HostRuntime) {
 const MEBIBYTE: usize = 1 << 20;
 
 #[test]
-fn a_fresh_buffer_has_its_room_also_where_memory_was_refused(rt: HostRuntime) {
-    let refusals = Refusals::new();
+fn a_fresh_buffer_has_the_room_that_is_asked_for(rt: HostRuntime) {
     for capacity in [0, 1, 100_000, 2 * MEBIBYTE, 3 * MEBIBYTE] {
-        let bytes = asked_again!(
-            &rt,
-            refusals,
-            fresh(rt.alloc(), capacity).ok_or(PullError::Memory)
-        );
+        let bytes = fresh(rt.alloc(), capacity).expect(&rt, "there is memory");
         assert!(rt; bytes.is_empty() && bytes.capacity() == capacity);
     }
-    refusals.tell(&rt);
 }
 
-/// Parts of so many bytes, one behind the other.
-fn joined_parts(alloc: Global, parts: &[usize]) -> Result<Vec<u8>, PullError> {
-    let mut bytes = Vec::new(alloc);
-    for (byte, count) in parts.iter().enumerate() {
-        bytes.extend_from_slice(&vec![in alloc; (byte % 256) as u8; *count]?)?;
-    }
-    Ok(bytes)
-}
-
-/// What is shown of bytes.
-fn shown(alloc: Global, bytes: &impl Debug) -> Result<String, PullError> {
-    Ok(format!(in alloc; "{bytes:?}")?)
-}
-
-/// A buffer that has this room takes parts of so many bytes, each once more where memory was
-/// refused, holds them all, and is shown as a vector of them is. It comes again empty, with the room
-/// that it grew to.
-fn takes(rt: &(impl Abort + AllocGlobal), memory: Memory<'_>, room: usize, parts: &[usize]) {
-    let expected = asked_again!(rt, memory, joined_parts(rt.alloc(), parts));
-    let pool = asked_again!(rt, memory, made_pool(rt.alloc(), 1, room));
+/// A buffer takes parts of so many bytes, holds them all, and is shown as a vector of them is.
+fn takes(rt: &(impl Abort + AllocGlobal), parts: &[usize]) {
+    let pool = made_pool(rt, 1);
     let mut buffer = pool.pull().expect(rt, "an item is free");
-    let mut rest = expected.as_slice();
-    for count in parts {
-        let (part, behind) = rest.split_at(rest.len().min(*count));
-        asked_again!(rt, memory, buffer.append(part));
-        rest = behind;
+    let mut expected = Vec::new(rt.alloc());
+    for (byte, count) in parts.iter().enumerate() {
+        let part = vec![in rt.alloc(); (byte % 256) as u8; *count].expect(rt, "memory is left");
+        buffer.append(&part).expect(rt, "memory is left");
+        expected
+            .extend_from_slice(&part)
+            .expect(rt, "memory is left");
     }
     assert!(*rt; buffer.as_slice() == expected.as_slice());
     if expected.len() < MEBIBYTE {
-        let told = asked_again!(rt, memory, shown(rt.alloc(), &buffer));
-        let wanted = asked_again!(rt, memory, shown(rt.alloc(), &expected));
-        assert_equal(rt, told.as_str(), wanted.as_str());
+        let shown = format!(in rt.alloc(); "{buffer:?}").expect(rt, "memory is left");
+        let wanted = format!(in rt.alloc(); "{expected:?}").expect(rt, "memory is left");
+        assert_equal(rt, shown.as_str(), wanted.as_str());
     }
-    drop(buffer);
-    let mut again = pool.pull().expect(rt, "an item is free");
-    let told = (again.page_number(), again.page_id(), again.as_slice().len());
-    assert_equal(rt, told, (0, 0, 0));
-    for _ in 0..expected.len().min(64) {
-        again.append(b"y").expect(rt, "there is room");
-    }
-}
-
-#[test]
-fn appends_go_on_where_memory_was_refused(rt: HostRuntime) {
-    let refusals = Refusals::new();
-    takes(&rt, Memory(Some(&refusals)), 0, &[0, 5, 5000]);
-    refusals.tell(&rt);
 }
 
 #[test]
 fn a_buffer_takes_long_texts_again_and_again(rt: HostRuntime) {
-    for parts in [[5000; 21].as_slice(), &[MEBIBYTE, 4, 5000], &[3 * MEBIBYTE]] {
-        takes(&rt, AMPLE, 16, parts);
-    }
+    takes(&rt, &[5000; 21]);
+    takes(&rt, &[MEBIBYTE, 4, 5000]);
+    takes(&rt, &[3 * MEBIBYTE]);
 }
 
 #[test]
 fn buffers_are_shown_empty_and_full_and_long(rt: HostRuntime) {
-    for parts in [[].as_slice(), &[16], &[1, 255, 300, 0]] {
-        takes(&rt, AMPLE, 16, parts);
-    }
+    takes(&rt, &[]);
+    takes(&rt, &[16]);
+    takes(&rt, &[1, 255, 300, 0]);
 }

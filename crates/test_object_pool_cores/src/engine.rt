@@ -2,13 +2,10 @@
 mod devices;
 mod failures;
 mod long;
-mod refused;
 
 use crate::assert_equal::assert_equal;
-use devices::{Device, Input, TAKES_ALL, Takes};
+use devices::{Device, Input};
 use object_pool_cores::engine::*;
-use pool_parts::PullError;
-use std::alloc::Global;
 use std::process::Abort;
 use std::sync::Wait;
 
@@ -48,11 +45,10 @@ fn plays(
     rt: &(impl Abort + Wait + AllocGlobal),
     pool: Pool,
     mut input: Input<'_>,
-    takes: Takes,
+    mut output: Device,
     ending: Ending,
     expected: &str,
 ) -> (usize, usize) {
-    let mut output = Device::new(Vec::new(rt.alloc()), takes);
     let ended = play(rt, pool, &mut input, &mut output);
     let is_expected = output.bytes.as_slice() == expected.as_bytes();
     assert!(*rt;
@@ -64,7 +60,8 @@ fn plays(
 
 /// Plays an input, whose output has to be the one that is expected.
 fn answers(rt: &(impl Abort + Wait + AllocGlobal), pool: Pool, input: &str, expected: &str) {
-    plays(rt, pool, Input::new(input), TAKES_ALL, Ok(()), expected);
+    let output = Device::new(rt.alloc(), usize::MAX, usize::MAX);
+    plays(rt, pool, Input::new(input), output, Ok(()), expected);
 }
 
 /// Plays a row.
@@ -74,12 +71,12 @@ fn says(rt: &(impl Abort + Wait + AllocGlobal), pool: Pool, row: &str) {
 }
 
 /// Returns a line so many times.
-fn repeated(alloc: Global, line: &str, times: usize) -> Result<String, PullError> {
-    let mut text = String::with_capacity(alloc, line.len().saturating_mul(times))?;
+fn repeated(rt: &(impl Abort + AllocGlobal), line: &str, times: usize) -> String {
+    let mut text = String::new(rt.alloc());
     for _ in 0..times {
-        text.push_str(line)?;
+        text.push_str(line).expect(rt, "memory is left");
     }
-    Ok(text)
+    text
 }
 
 #[test]
@@ -121,6 +118,13 @@ fn plays_a_stack_and_fresh_items(rt: HostRuntime) {
 }
 
 #[test]
+fn no_line_has_no_reply(rt: HostRuntime) {
+    for kind in [Kind::Linear, Kind::Bounded(1), Kind::Stack, Kind::None] {
+        says(&rt, (kind, Reset::Zero), "=>");
+    }
+}
+
+#[test]
 fn the_greatest_numbers_are_answered_in_each_command(rt: HostRuntime) {
     let row = "attach 4294967295\nwrite 4294967295 1\nreturn 4294967295\nforget 4294967295\npull\n\
                write 1 4294967295\nreturn 1\npull\n=>attached 0\nno such holder\n\
@@ -130,27 +134,15 @@ fn the_greatest_numbers_are_answered_in_each_command(rt: HostRuntime) {
 }
 
 #[test]
-fn no_line_has_no_reply(rt: HostRuntime) {
-    for kind in [Kind::Linear, Kind::Bounded(1), Kind::Stack, Kind::None] {
-        says(&rt, (kind, Reset::Zero), "=>");
-    }
-}
-
-#[test]
 fn each_kind_of_pool_is_reset_to_zero(rt: HostRuntime) {
-    for kind in [
-        Kind::Linear,
-        Kind::Bounded(1),
-        Kind::Bounded(2),
-        Kind::Bounded(100),
-    ] {
-        let row = "pull\nwrite 0 5\nreturn 0\npull\n=>pulled 0 number 0 value 0\nwritten 0\n\
-                   returned 0\npulled 1 number 0 value 0\n";
-        says(&rt, (kind, Reset::Zero), row);
+    let row = "pull\nwrite 0 5\nreturn 0\npull\n=>pulled 0 number 0 value 0\nwritten 0\n\
+               returned 0\npulled 1 number 0 value 0\n";
+    for pages in [1, 2, 100] {
+        says(&rt, (Kind::Bounded(pages), Reset::Zero), row);
     }
-    for kind in [Kind::Stack, Kind::None] {
-        let row = "pull\nwrite 0 5\nreturn 0\npull\n=>pulled 0 value 0\nwritten 0\nreturned 0\n\
-                   pulled 1 value 0\n";
-        says(&rt, (kind, Reset::Zero), row);
-    }
+    says(&rt, (Kind::Linear, Reset::Zero), row);
+    let row = "pull\nwrite 0 5\nreturn 0\npull\n=>pulled 0 value 0\nwritten 0\nreturned 0\n\
+               pulled 1 value 0\n";
+    says(&rt, (Kind::Stack, Reset::Zero), row);
+    says(&rt, (Kind::None, Reset::Zero), row);
 }

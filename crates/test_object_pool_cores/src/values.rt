@@ -1,88 +1,79 @@
-//! What rows are played with: their values are counted, and so is what resets them.
+//! The values of cores and worlds: they are counted, and so is what resets them.
+ghost use Rattle.std.specs.Prelude.{⊤};
+
 use crate::assert_equal::assert_equal;
-use pool_parts::PullError;
-use rows::asked_again;
-use rows::refusals::Refusals;
-use rows::row::{Command, Player, Row};
+use pool_parts::clean::AnyValue;
+use pool_parts::closures::Reset;
 use rows::said::Said;
-use rows::setting::Setting;
+use std::alloc::AllocError;
 use std::process::Abort;
 use std::sync::Arc;
-use test_values::counted::NEVER;
 use test_values::tallied::Tallied;
+use test_values::tally::{Tally, new_tally};
 
-/// A row: its commands, `=>`, and their answers.
-pub type Text = &'static str;
-
-/// At most so many pages, if there is a limit.
-pub type Limit = Option<usize>;
-
-/// Memory of which one request may be refused, which is noted then, and what was refused is asked
-/// for again. Without such a note it is ample, and a refusal is a fault.
-#[derive(Clone, Copy)]
-pub struct Memory<'r>(pub Option<&'r Refusals>);
-
-pub const AMPLE: Memory<'static> = Memory(None);
-
-impl Memory<'_> {
-    /// Whether an answer has to be asked for again.
-    pub fn are_told_by<X: Drop>(&self, answer: &Result<X, PullError>) -> bool {
-        match self.0 {
-            Some(refusals) => refusals.are_told_by(answer),
-            None => false,
-        }
-    }
-}
-
-/// Creates a setting in which no call of `init` is refused.
-pub fn new_setting(rt: &(impl Abort + AllocGlobal), memory: Memory<'_>) -> Arc<Setting> {
-    asked_again!(rt, memory, Setting::new(rt.alloc(), NEVER))
-}
-
-/// Plays a row. Then the player ends with what it has: each value is dropped by that, and none is
-/// reset.
-pub fn plays<P: Player + Drop>(
-    rt: &impl Abort,
-    memory: Memory<'_>,
-    setting: &Arc<Setting>,
-    mut player: P,
-    text: Text,
-) {
-    let (commands, answers) = text.split_once("=>").unwrap_or((text, ""));
-    let mut row = Row::new(commands, answers);
-    for _ in 0..u64::MAX {
-        let Some(command) = row.next_command() else {
-            break;
-        };
-        let mut said = player.play(command);
-        if let Some(refusals) = memory.0
-            && said.words() == "refused memory"
-        {
-            refusals.note();
-            said = player.play(command);
-        }
-        row.hear(said);
-    }
-    assert_equal(rt, row.difference(), None);
-    let (tally, resets) = (&setting.tally, setting.tally.resets());
-    drop(player);
-    let left = (tally.living(), tally.resets(), Arc::strong_count(setting));
-    assert_equal(rt, left, (0, resets, 1));
+/// Creates a tally of which its values are owners. There has to be memory for it.
+pub fn made_tally(rt: &(impl Abort + AllocGlobal)) -> Arc<Tally> {
+    new_tally(rt.alloc()).expect(rt, "memory is left")
 }
 
 /// Makes a value with this number, by one more call. `None` if it can have no tally.
-pub fn numbered(setting: &Setting, number: usize) -> Option<Tallied> {
-    let mut value = Tallied::new(&setting.tally)?;
+pub fn numbered(tally: &Arc<Tally>, number: usize) -> Option<Tallied> {
+    let mut value = Tallied::new(tally)?;
     value.number = number;
     Some(value)
 }
 
-/// Does a command for which nothing but the setting is needed.
-pub fn said_of_setting(setting: &Setting, command: Command) -> Said {
-    match command.word {
-        "living" => Said::of("living").and(setting.tally.living()),
-        _ => setting.play(command),
+/// What a reset leaves of a value's number.
+#[derive(Clone, Copy)]
+pub enum Leaves {
+    TheSame,
+    Zero,
+    OneMore,
+}
+
+/// Resets values, and counts how often.
+#[derive(Drop)]
+pub struct Resets {
+    tally: Arc<Tally>,
+    leaves: Leaves,
+}
+
+impl Resets {
+    /// Creates a reset that counts on this tally.
+    ///
+    /// # Errors
+    ///
+    /// If the tally can have no more owners.
+    pub fn new(tally: &Arc<Tally>, leaves: Leaves) -> Result<Resets, AllocError> {
+        let tally = Arc::try_clone(tally)?;
+        Ok(Resets { tally, leaves })
     }
+}
+
+impl Reset<Tallied, AnyValue> for Resets {
+    ghost leaves = { λ _ _ _. ⊤ };
+
+    fn reset(&self, value: &mut Tallied) {
+        self.tally.count_reset();
+        value.number = match self.leaves {
+            Leaves::TheSame => value.number,
+            Leaves::Zero => 0,
+            Leaves::OneMore => value.number.wrapping_add(1),
+        };
+    }
+}
+
+/// The commands of a row, and the answers, which stand behind `=>`.
+pub fn parted(row: &'static str) -> (&'static str, &'static str) {
+    row.split_once("=>").unwrap_or((row, ""))
+}
+
+/// Says how many calls there were for a value, and how many values were reset and dropped.
+pub fn counts(tally: &Tally) -> Said {
+    Said::of("calls reset dropped")
+        .and(tally.calls())
+        .and(tally.resets())
+        .and(tally.drops())
 }
 
 /// Says a number, or that there is none.
@@ -91,4 +82,12 @@ pub fn number_or_none(words: &'static str, number: Option<usize>) -> Said {
         Some(number) => Said::of(words).and(number),
         None => Said::of("none"),
     }
+}
+
+/// Ends what has the values of a tally: each of them is dropped by that, and none is reset.
+pub fn ends<X: Drop>(rt: &impl Abort, holder: X, tally: &Arc<Tally>) {
+    let resets = tally.resets();
+    drop(holder);
+    let left = (tally.living(), tally.resets(), Arc::strong_count(tally));
+    assert_equal(rt, left, (0, resets, 1));
 }

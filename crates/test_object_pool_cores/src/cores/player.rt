@@ -2,19 +2,20 @@
 //!
 //! A command's numbers are a holder and a value. Holders are counted from 0 in the order in which
 //! their items came. The answer to a pull is `pulled`, the holder, the item's number if it has one,
-//! and its value. By `gather` steps are only gathered from then on, until `run` does those in one
-//! run that have no reply yet.
-use super::opening::Core;
-use crate::values::{number_or_none, numbered, said_of_setting};
+//! and its value. By `gather` steps are only gathered from then on, until `run` does them in one run.
+use super::opening::Opens;
+use crate::values::{counts, number_or_none, numbered};
 use object_pool_cores::sequential::{
     AttachError, Command as Step, Item, Player, Reply, RunError, SequentialPool,
 };
+use pool_parts::PullError;
 use rows::row::{self, Command};
 use rows::said::Said;
-use rows::setting::{Setting, refused};
-use std::alloc::{AllocError, Global};
+use std::alloc::Global;
+use std::mem;
 use std::sync::Arc;
 use test_values::tallied::Tallied;
+use test_values::tally::Tally;
 
 /// A core with what is held of it.
 pub trait Holds {
@@ -28,7 +29,6 @@ pub trait Holds {
         replies: &mut Vec<Reply<Tallied>>,
     ) -> Result<(), RunError> {
         for step in steps {
-            replies.reserve(1)?;
             replies.push(self.step(step)?)?;
         }
         Ok(())
@@ -37,9 +37,9 @@ pub trait Holds {
     /// Returns the value that a holder has.
     fn value(&self, holder: usize) -> Option<usize>;
 
-    /// Says what the core tells of itself, or of a holder's item, if it does.
-    fn tell(&self, _command: Command) -> Option<Said> {
-        None
+    /// Says what the core tells of itself, or of a holder's item.
+    fn tell(&self, _command: Command) -> Said {
+        Said::of("no such command")
     }
 }
 
@@ -95,9 +95,8 @@ impl<P: SequentialPool<Tallied>> Held<P> {
     }
 }
 
-impl<P: SequentialPool<Tallied> + Core> Holds for Held<P> {
+impl<P: SequentialPool<Tallied> + Opens> Holds for Held<P> {
     fn step(&mut self, step: Step<Tallied>) -> Result<Reply<Tallied>, RunError> {
-        self.items.reserve(1)?;
         Ok(match step {
             Step::Pull => match self.core.pull() {
                 Ok(item) => return self.hold(item),
@@ -126,23 +125,23 @@ impl<P: SequentialPool<Tallied> + Core> Holds for Held<P> {
         }
     }
 
-    fn tell(&self, command: Command) -> Option<Said> {
+    fn tell(&self, command: Command) -> Said {
         let [holder, ..] = command.numbers;
         match (command.word, self.items.get(holder)) {
-            ("mine", Some(Some(item))) if self.core.is_mine(item) => Some(Said::of("mine")),
-            ("mine", _) => Some(Said::of("not mine")),
+            ("mine", Some(Some(item))) if self.core.is_mine(item) => Said::of("mine"),
+            ("mine", _) => Said::of("not mine"),
             _ => self.core.tell(command.word),
         }
     }
 }
 
-/// Returns the step that a command asks for. Values are made by one more call of `init`.
-fn step_of(setting: &Setting, command: Command) -> Option<Step<Tallied>> {
+/// Returns the step that a command asks for. Values are made by one more call of the tally.
+fn step_of(tally: &Arc<Tally>, command: Command) -> Option<Step<Tallied>> {
     let [first, second, _] = command.numbers;
     Some(match command.word {
         "pull" => Step::Pull,
-        "attach" => Step::Attach(numbered(setting, first)?),
-        "write" => Step::Write(first, numbered(setting, second)?),
+        "attach" => Step::Attach(numbered(tally, first)?),
+        "write" => Step::Write(first, numbered(tally, second)?),
         "return" => Step::Return(first),
         "forget" => Step::Forget(first),
         _ => return None,
@@ -157,13 +156,12 @@ fn said_of(reply: &Reply<Tallied>) -> Said {
             Said::of("pulled").and(*holder).and(number)
         }
         Reply::Pulled(holder, None) | Reply::Attached(holder) => Said::of("pulled").and(*holder),
-        Reply::Refused(cause) => refused(*cause),
+        Reply::Refused(PullError::Init) => Said::of("refused init"),
+        Reply::Refused(PullError::Limit) => Said::of("refused limit"),
         Reply::AttachRefused(AttachError::NotOffered(value)) => {
             Said::of("not offered").and(value.number)
         }
-        Reply::AttachRefused(AttachError::Memory(value)) => {
-            Said::of("refused memory").and(value.number)
-        }
+        Reply::Refused(_) | Reply::AttachRefused(_) => Said::of("refused memory"),
         Reply::Written => Said::of("written"),
         Reply::Returned => Said::of("returned"),
         Reply::Forgotten => Said::of("forgotten"),
@@ -171,47 +169,39 @@ fn said_of(reply: &Reply<Tallied>) -> Said {
     }
 }
 
-/// One who plays on a core, the commands that were gathered, and the replies of all runs.
+/// One who plays on a core, the steps that wait for a run, and the replies of all runs.
 #[derive(Drop)]
 pub struct CorePlayer<H> {
     alloc: Global,
-    setting: Arc<Setting>,
-    pool: H,
+    pub pool: H,
+    pub tally: Arc<Tally>,
     gathers: bool,
-    gathered: Vec<Command>,
+    steps: Vec<Step<Tallied>>,
     replies: Vec<Reply<Tallied>>,
-    /// What was said to the last attach for which there was no memory.
-    refused: Said,
 }
 
-impl<H: Holds + Drop> CorePlayer<H> {
+impl<H: Holds> CorePlayer<H> {
     /// Creates one who does each step at once.
-    ///
-    /// # Errors
-    ///
-    /// If the setting can have no more owners.
-    pub fn new(
-        alloc: Global,
-        setting: &Arc<Setting>,
-        pool: H,
-    ) -> Result<CorePlayer<H>, AllocError> {
-        Ok(CorePlayer {
+    pub fn new(alloc: Global, tally: Arc<Tally>, pool: H) -> CorePlayer<H> {
+        CorePlayer {
             alloc,
-            setting: Arc::try_clone(setting)?,
             pool,
+            tally,
             gathers: false,
-            gathered: Vec::new(alloc),
+            steps: Vec::new(alloc),
             replies: Vec::new(alloc),
-            refused: Said::of("none"),
-        })
+        }
     }
 
-    /// Does a step, and says the value of an item that came.
+    /// Does a step, and says the value of an item that came. Or gathers it.
     fn step(&mut self, command: Command) -> Result<Said, RunError> {
-        let Some(step) = step_of(&self.setting, command) else {
-            let told = self.pool.tell(command);
-            return Ok(told.unwrap_or_else(|| said_of_setting(&self.setting, command)));
+        let Some(step) = step_of(&self.tally, command) else {
+            return Ok(self.pool.tell(command));
         };
+        if self.gathers {
+            self.steps.push(step)?;
+            return Ok(Said::of("gathered"));
+        }
         let reply = self.pool.step(step)?;
         let said = said_of(&reply);
         let (Reply::Pulled(holder, _) | Reply::Attached(holder)) = reply else {
@@ -224,55 +214,23 @@ impl<H: Holds + Drop> CorePlayer<H> {
         )
     }
 
-    /// Does what another word says, and pulls then.
-    fn pull_behind(&mut self, word: &'static str, command: Command) -> Result<Said, RunError> {
-        self.step(Command { word, ..command })?;
-        self.step(Command {
-            word: "pull",
-            ..command
-        })
-    }
-
-    /// Attaches a value, and keeps what is said where there is no memory.
-    fn attach(&mut self, command: Command) -> Said {
-        let said = self.step(command).unwrap_or(Said::of("refused memory"));
-        if said.words() == "refused memory" {
-            self.refused = said;
+    /// Gathers so many returns by one who holds nothing.
+    fn gather_idle(&mut self, times: usize) -> Result<Said, RunError> {
+        for _ in 0..times {
+            self.steps.push(Step::Return(usize::MAX))?;
         }
-        said
-    }
-
-    /// Lets a command wait for a run.
-    fn gather(&mut self, command: Command) -> Result<Said, RunError> {
-        self.gathered.push(command)?;
         Ok(Said::of("gathered"))
     }
 
-    /// Does what was gathered and has no reply, and says how many replies there are.
+    /// Does what was gathered, and says how many replies there are.
     fn run(&mut self) -> Result<Said, RunError> {
-        let rest = self.gathered.get(self.replies.len()..).unwrap_or(&[]);
-        let mut steps = Vec::with_capacity(self.alloc, rest.len())?;
-        for command in rest {
-            if let Some(step) = step_of(&self.setting, *command) {
-                steps.push(step)?;
-            }
-        }
-        self.pool.run(steps, &mut self.replies)?;
-        Ok(Said::of("replies").and(self.replies.len()))
-    }
-
-    /// Does so many returns by one who holds nothing, in one run.
-    fn idle(&mut self, times: usize) -> Result<Said, RunError> {
-        let mut steps = Vec::with_capacity(self.alloc, times)?;
-        for _ in 0..times {
-            steps.push(Step::Return(usize::MAX))?;
-        }
+        let steps = mem::replace(&mut self.steps, Vec::new(self.alloc));
         self.pool.run(steps, &mut self.replies)?;
         Ok(Said::of("replies").and(self.replies.len()))
     }
 }
 
-impl<H: Holds + Drop> row::Player for CorePlayer<H> {
+impl<H: Holds> row::Player for CorePlayer<H> {
     fn play(&mut self, command: Command) -> Said {
         let [first, ..] = command.numbers;
         let said = match command.word {
@@ -280,19 +238,13 @@ impl<H: Holds + Drop> row::Player for CorePlayer<H> {
                 self.gathers = true;
                 Ok(Said::of("gathers"))
             }
-            "pull" | "attach" | "write" | "return" | "forget" if self.gathers => {
-                self.gather(command)
-            }
+            "idle" => self.gather_idle(first),
             "run" => self.run(),
-            "idle" => self.idle(first),
             "reply" => Ok(self.replies.get(first).map_or(Said::of("none"), said_of)),
             "held" => Ok(number_or_none("has", self.pool.value(first))),
-            "turn" => self.pull_behind("return", command),
-            "refuse_pull" => self.pull_behind("refuse", command),
-            "attach" => Ok(self.attach(command)),
-            "refused" => Ok(self.refused),
+            "counts" => Ok(counts(&self.tally)),
             _ => self.step(command),
         };
-        said.unwrap_or(Said::of("refused memory"))
+        said.unwrap_or(Said::of("out of memory"))
     }
 }

@@ -1,4 +1,5 @@
 //! A reader and a writer that fail, or give and take little at a time.
+use std::alloc::Global;
 use std::io::{self, ErrorKind, Read, Write};
 
 /// Reads out a text, at most so many bytes a call. Behind it it fails once, where it has a cause for
@@ -40,37 +41,26 @@ impl Read for Input<'_> {
     }
 }
 
-/// What a device takes: at most so many bytes a call, until its room is used up. Where it has a
-/// cause for that, it fails at its first write.
-#[derive(Clone, Copy)]
-pub(super) struct Takes {
-    pub(super) room: usize,
-    pub(super) most: usize,
-    pub(super) cause: Option<ErrorKind>,
-}
-
-pub(super) const TAKES_ALL: Takes = Takes {
-    room: usize::MAX,
-    most: usize::MAX,
-    cause: None,
-};
-
-/// A device that keeps the bytes that it took.
+/// Takes at most so many bytes a call, and fails where its room is used up. Where it has a cause for
+/// that, it fails at its first write too.
 #[derive(Drop)]
 pub(super) struct Device {
     pub(super) bytes: Vec<u8>,
+    pub(super) room: usize,
+    pub(super) most: usize,
+    pub(super) cause: Option<ErrorKind>,
     pub(super) writes: usize,
-    takes: Takes,
 }
 
 impl Device {
-    /// Creates a device that puts what it takes behind these bytes.
-    pub(super) fn new(bytes: Vec<u8>, takes: Takes) -> Device {
-        let writes = 0;
+    /// Creates a device with this room, which takes at most so many bytes a call.
+    pub(super) fn new(alloc: Global, room: usize, most: usize) -> Device {
         Device {
-            bytes,
-            writes,
-            takes,
+            bytes: Vec::new(alloc),
+            room,
+            most,
+            cause: None,
+            writes: 0,
         }
     }
 }
@@ -78,11 +68,11 @@ impl Device {
 impl Write for Device {
     fn write(&mut self, buf: &[u8]) -> io::Result<usize> {
         self.writes = self.writes.saturating_add(1);
-        if let Some(cause) = self.takes.cause.take() {
+        if let Some(cause) = self.cause.take() {
             return Err(io::Error::from(cause));
         }
-        let left = self.takes.room.saturating_sub(self.bytes.len());
-        let count = buf.len().min(self.takes.most).min(left);
+        let left = self.room.saturating_sub(self.bytes.len());
+        let count = buf.len().min(self.most).min(left);
         if left == 0 || self.bytes.extend_from_slice(&buf[..count]).is_err() {
             return Err(io::Error::from(ErrorKind::Other));
         }

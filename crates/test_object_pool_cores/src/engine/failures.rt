@@ -1,11 +1,11 @@
-//! Devices that fail, on each kind of pool.
+//! Devices that fail, and want of memory, on each kind of pool.
 use super::*;
 use std::io::ErrorKind;
 
 /// An input for a kind of pool, whose last line has no line feed, with a reply for each line.
-pub(super) type Session = (Pool, &'static str, &'static str);
+type Session = (Pool, &'static str, &'static str);
 
-pub(super) const SESSIONS: [Session; 4] = [
+const SESSIONS: [Session; 4] = [
     (
         LINEAR,
         "pull\nwrite 0 5\nreturn 0\npull",
@@ -32,20 +32,21 @@ pub(super) const SESSIONS: [Session; 4] = [
 /// would end. Each whole line has its reply.
 fn reads_that_fail(rt: &(impl Wait + Abort + AllocGlobal), session: Session, most: usize) {
     let (pool, text, replies) = session;
-    let cause = Some(ErrorKind::Other);
     let mut answered = 0usize;
     for good in 0..=text.len() {
         let (before, _) = text.split_at_checked(good).unwrap_or((text, ""));
         let input = Input {
             most,
-            cause,
+            cause: Some(ErrorKind::Other),
             ..Input::new(before)
         };
+        let output = Device::new(rt.alloc(), 1024, 1024);
         let (expected, rest) = replies.split_at_checked(answered).unwrap_or((replies, ""));
-        plays(rt, pool, input, TAKES_ALL, READ_FAILED, expected);
+        plays(rt, pool, input, output, READ_FAILED, expected);
         if text.as_bytes().get(good) == Some(&b'\n') {
-            let (line, _) = rest.split_once('\n').unwrap_or((rest, ""));
-            answered = answered.saturating_add(line.len()).saturating_add(1);
+            if let Some((line, _)) = rest.split_once('\n') {
+                answered = answered.saturating_add(line.len()).saturating_add(1);
+            }
         }
     }
 }
@@ -57,33 +58,48 @@ fn a_reader_that_fails_leaves_the_replies_to_whole_lines(rt: HostRuntime) {
             reads_that_fail(&rt, session, most);
         }
     }
-    let (text, replies) = ("pull\nwri", "pulled 0 number 0 value 0\n");
-    reads_that_fail(&rt, (LINEAR, text, replies), 1024);
 }
 
-/// It takes at most so many bytes a call, and fails after each count of bytes.
+/// A writer that takes at most so many bytes a call fails after each count of bytes.
+fn writes_that_fail(rt: &(impl Wait + Abort + AllocGlobal), session: Session, most: usize) {
+    let (pool, text, replies) = session;
+    for room in 0..replies.len() {
+        let (input, output) = (Input::new(text), Device::new(rt.alloc(), room, most));
+        let (expected, _) = replies.split_at_checked(room).unwrap_or((replies, ""));
+        plays(rt, pool, input, output, WRITE_FAILED, expected);
+    }
+}
+
 #[test]
 fn a_writer_that_fails_has_a_beginning_of_the_replies(rt: HostRuntime) {
-    for (pool, text, replies) in SESSIONS {
-        for room in 0..replies.len() {
-            let (expected, _) = replies.split_at_checked(room).unwrap_or((replies, ""));
-            for most in [1, 7, 1024] {
-                let takes = Takes {
-                    room,
-                    most,
-                    ..TAKES_ALL
-                };
-                plays(&rt, pool, Input::new(text), takes, WRITE_FAILED, expected);
-            }
+    for session in SESSIONS {
+        for most in [1, 7, 1024] {
+            writes_that_fail(&rt, session, most);
         }
     }
+}
+
+#[test]
+fn a_device_fails_within_a_line(rt: HostRuntime) {
+    let input = Input {
+        cause: Some(ErrorKind::Other),
+        ..Input::new("pull\nwri")
+    };
+    let (output, expected) = (
+        Device::new(rt.alloc(), 64, 64),
+        "pulled 0 number 0 value 0\n",
+    );
+    plays(&rt, LINEAR, input, output, READ_FAILED, expected);
+    let (input, output) = (Input::new("pull\n"), Device::new(rt.alloc(), 10, 64));
+    plays(&rt, LINEAR, input, output, WRITE_FAILED, "pulled 0 n");
 }
 
 /// One write for the read, and one for the line that has no line feed. The second read finds the end.
 #[test]
 fn replies_to_one_read_are_one_write(rt: HostRuntime) {
     for (pool, text, replies) in SESSIONS {
-        let told = plays(&rt, pool, Input::new(text), TAKES_ALL, Ok(()), replies);
+        let (input, output) = (Input::new(text), Device::new(rt.alloc(), 1024, 1024));
+        let told = plays(&rt, pool, input, output, Ok(()), replies);
         assert_equal(&rt, told, (2, 2));
     }
 }
@@ -91,11 +107,12 @@ fn replies_to_one_read_are_one_write(rt: HostRuntime) {
 #[test]
 fn a_writer_may_take_one_byte_a_call_or_none(rt: HostRuntime) {
     for (pool, text, replies) in SESSIONS {
-        for (most, ending, expected) in [(1, Ok(()), replies), (0, WRITE_FAILED, "")] {
-            let takes = Takes { most, ..TAKES_ALL };
-            let told = plays(&rt, pool, Input::new(text), takes, ending, expected);
-            assert_equal(&rt, told.1, expected.len().max(1));
-        }
+        let (input, output) = (Input::new(text), Device::new(rt.alloc(), 1024, 1));
+        let told = plays(&rt, pool, input, output, Ok(()), replies);
+        assert_equal(&rt, told.1, replies.len());
+        let (input, output) = (Input::new(text), Device::new(rt.alloc(), 1024, 0));
+        let told = plays(&rt, pool, input, output, WRITE_FAILED, "");
+        assert_equal(&rt, told, (1, 1));
     }
 }
 
@@ -121,7 +138,8 @@ fn a_read_that_fails_is_never_asked_again(rt: HostRuntime) {
                 cause: Some(cause),
                 ..Input::new(text)
             };
-            let told = plays(&rt, STACK, input, TAKES_ALL, READ_FAILED, expected);
+            let output = Device::new(rt.alloc(), 1024, 1024);
+            let told = plays(&rt, STACK, input, output, READ_FAILED, expected);
             assert_equal(&rt, (cause, told.0), (cause, reads));
         }
     }
@@ -130,11 +148,39 @@ fn a_read_that_fails_is_never_asked_again(rt: HostRuntime) {
 #[test]
 fn a_write_that_fails_is_never_asked_again(rt: HostRuntime) {
     for cause in PASSING {
-        let takes = Takes {
+        let output = Device {
             cause: Some(cause),
-            ..TAKES_ALL
+            ..Device::new(rt.alloc(), 1024, 1024)
         };
-        let told = plays(&rt, STACK, Input::new("pull\n"), takes, WRITE_FAILED, "");
+        let told = plays(&rt, STACK, Input::new("pull\n"), output, WRITE_FAILED, "");
         assert_equal(&rt, (cause, told.1), (cause, 1));
+    }
+}
+
+/// The replies to the stack's session where there is no memory for what is attached.
+const ATTACH_REFUSED: &str =
+    "refused memory\nno such holder\npulled 0 value 0\nno such holder\nbad line\n";
+
+/// Holds where each request for memory is refused in turn, and where none is.
+#[test]
+fn want_of_memory_is_answered_as_such(rt: HostRuntime) {
+    for (pool, text, replies) in SESSIONS {
+        let Ok(bytes) = Vec::with_capacity(rt.alloc(), 1024) else {
+            continue;
+        };
+        let mut output = Device {
+            bytes,
+            ..Device::new(rt.alloc(), 1024, 1024)
+        };
+        let ending = play(&rt, pool, &mut Input::new(text), &mut output);
+        let told = output.bytes.as_slice();
+        let is_fair = match ending {
+            Ok(()) => told == replies.as_bytes() || told == ATTACH_REFUSED.as_bytes(),
+            Err(EngineError::Memory) => {
+                replies.as_bytes().starts_with(told) && (told.is_empty() || told.ends_with(b"\n"))
+            }
+            Err(_) => false,
+        };
+        assert!(rt; is_fair, "{pool:?}, {ending:?}");
     }
 }
