@@ -53,10 +53,10 @@ pub fn ends(pool: Arc<Pool>, book: &Arc<Book>, last: Option<Owned>, forgotten: u
 
 /// Plays a row at a pool. Returns an item that owns the pool, if one is held at the end, and how many
 /// were forgotten.
-fn play_at<R: Abort + Wait + Clock + AllocGlobal>(
-    rt: &R,
-    pool: &Arc<Pool>,
-    book: &Arc<Book>,
+fn play_at<'p, R: Abort + Wait + Clock + AllocGlobal>(
+    rt: &'p R,
+    pool: &'p Arc<Pool>,
+    book: &'p Arc<Book>,
     (commands, answers): Row,
 ) -> (Option<Difference>, Option<Owned>, usize) {
     let player = LazyPlayer::new(rt, rt.alloc(), pool, book);

@@ -180,7 +180,7 @@ impl<'p, R: Wait + Clock> Clock for Watch<'p, R> {
         } else {
             1_000_000_000
         };
-        Ok(Duration::from_millis(passed as u64 + 1))
+        Ok(Duration::from_millis((passed as u64).wrapping_add(1)))
     }
 
     fn since_1970(&self) -> io::Result<Duration> {
