@@ -1,7 +1,5 @@
 //! What is done with the values of a pool, counted by the pool's closures and by its model.
 use pool_parts::PullError;
-use rows::row::Command;
-use rows::said::Said;
 use std::alloc::Global;
 use std::sync::Arc;
 use std::sync::atomic::Ordering::SeqCst;
@@ -9,7 +7,7 @@ use std::sync::atomic::{AtomicBool, AtomicUsize};
 use std::thread;
 
 /// How often was done what can be done with values.
-#[derive(Clone, Copy, Debug, Default, PartialEq, Eq)]
+#[derive(Clone, Copy, Debug, PartialEq, Eq)]
 pub struct Counts {
     /// How often `init` was called.
     pub calls: usize,
@@ -22,6 +20,17 @@ pub struct Counts {
 }
 
 impl Counts {
+    /// Creates counts of nothing.
+    pub fn new() -> Counts {
+        Counts {
+            calls: 0,
+            made: 0,
+            resets: 0,
+            drops: 0,
+            order: 0,
+        }
+    }
+
     /// Counts a drop of the value with this serial number.
     pub fn add_drop(&mut self, serial: usize) {
         self.drops = self.drops.wrapping_add(1);
@@ -35,7 +44,7 @@ fn next_order(order: usize, serial: usize) -> usize {
 }
 
 /// The counts that a pool's values and closures keep, and what they are told to do.
-#[derive(Default, Drop)]
+#[derive(Drop)]
 pub struct Book {
     calls: AtomicUsize,
     made: AtomicUsize,
@@ -44,9 +53,8 @@ pub struct Book {
     order: AtomicUsize,
     refuses: AtomicBool,
     rejects: AtomicBool,
-    /// Whether resets wait at their door.
+    /// Whether resets wait at their door, and how many came there.
     is_shut: AtomicBool,
-    /// How many resets came to a door that was shut, and threads to where they meet.
     came: AtomicUsize,
 }
 
@@ -59,28 +67,23 @@ const MOST_TURNS: u32 = 100_000_000;
 ///
 /// `Memory`.
 pub fn new_book(alloc: Global) -> Result<Arc<Book>, PullError> {
-    Ok(Arc::new(alloc, Book::default())?)
+    Ok(Arc::new(alloc, Book::new())?)
 }
 
 impl Book {
-    /// Does a command for which no pool is needed.
-    pub fn play(&self, command: Command) -> Said {
-        let word = command.word;
-        match word {
-            "refuse" | "allow" => self.refuse(word == "refuse"),
-            "reject" | "accept" => self.reject(word == "reject"),
-            "shut" | "open" => self.is_shut.store(word == "shut", SeqCst),
-            "come" => self.come(),
-            "counts" => {
-                let counts = self.counts();
-                return Said::of("counts")
-                    .and(counts.calls)
-                    .and(counts.resets)
-                    .and(counts.drops);
-            }
-            _ => return Said::of("no such command"),
+    /// Creates a book that counts from 0. Values are made, and resets keep them.
+    fn new() -> Book {
+        Book {
+            calls: AtomicUsize::new(0),
+            made: AtomicUsize::new(0),
+            resets: AtomicUsize::new(0),
+            drops: AtomicUsize::new(0),
+            order: AtomicUsize::new(0),
+            refuses: AtomicBool::new(false),
+            rejects: AtomicBool::new(false),
+            is_shut: AtomicBool::new(false),
+            came: AtomicUsize::new(0),
         }
-        Said::of("done")
     }
 
     /// Returns the counts. Their order of drops is exact if one thread drops values.
@@ -114,14 +117,28 @@ impl Book {
         self.rejects.store(rejects, SeqCst);
     }
 
-    /// Counts one more who came to where threads meet.
-    pub fn come(&self) {
-        self.came.fetch_add(1, SeqCst);
+    /// Says whether resets wait at their door from now on.
+    pub fn shut(&self, is_shut: bool) {
+        self.is_shut.store(is_shut, SeqCst);
     }
 
-    /// Returns how many came there, and to a door that was shut.
+    /// Returns how many resets came to a door that was shut.
     pub fn came(&self) -> usize {
         self.came.load(SeqCst)
+    }
+
+    /// Waits until the door is open.
+    fn pass_door(&self) {
+        if !self.is_shut.load(SeqCst) {
+            return;
+        }
+        self.came.fetch_add(1, SeqCst);
+        for _ in 0..MOST_TURNS {
+            if !self.is_shut.load(SeqCst) {
+                return;
+            }
+            thread::yield_now();
+        }
     }
 
     pub(crate) fn count_call(&self) {
@@ -133,17 +150,9 @@ impl Book {
         self.made.fetch_add(1, SeqCst)
     }
 
-    /// Counts a reset, which may have to wait until its door is open.
+    /// Counts a reset, which may have to wait at its door.
     pub(crate) fn count_reset(&self) {
-        if self.is_shut.load(SeqCst) {
-            self.come();
-        }
-        for _ in 0..MOST_TURNS {
-            if !self.is_shut.load(SeqCst) {
-                break;
-            }
-            thread::yield_now();
-        }
+        self.pass_door();
         self.resets.fetch_add(1, SeqCst);
     }
 

@@ -1,21 +1,14 @@
 //! The plain model of a pool: a list of places.
 use crate::book::Counts;
 use pool_parts::PullError;
-use rows::said::Said;
-use rows::setting::refused;
 use std::alloc::{AllocError, Global};
 
-#[derive(Clone, Copy, Default)]
+#[derive(Clone, Copy)]
 struct Place {
     /// The serial number of the value that lies there, or that its holder has.
     value: Option<usize>,
     is_held: bool,
-    /// Whether the item that is held owns the pool.
-    is_owned: bool,
 }
-
-/// An item: its number in the pool, and how many values were made before its value.
-pub type Item = (usize, usize);
 
 /// What a pool is to be, and what is to have been done with its values.
 #[derive(Drop)]
@@ -23,15 +16,10 @@ pub struct Model {
     places: Vec<Place>,
     /// How many values are made at a time: 1, or those of a page.
     batch: usize,
-    pub is_closed: bool,
-    /// How many items are in use, and the most that ever were at once.
-    pub held: usize,
-    pub most_held: usize,
-    /// How many of them own the pool.
-    pub owned: usize,
-    /// How many values there are, and the most that there ever were at once.
-    pub existing: usize,
-    pub most: usize,
+    is_closed: bool,
+    held: usize,
+    existing: usize,
+    most: usize,
     pub counts: Counts,
 }
 
@@ -44,18 +32,19 @@ impl Model {
     pub fn new(alloc: Global, items: usize, batch: usize) -> Result<Model, AllocError> {
         let mut places = Vec::with_capacity(alloc, items)?;
         for _ in 0..items {
-            places.push(Place::default())?;
+            places.push(Place {
+                value: None,
+                is_held: false,
+            })?;
         }
         Ok(Model {
             places,
             batch,
             is_closed: false,
             held: 0,
-            most_held: 0,
-            owned: 0,
             existing: 0,
             most: 0,
-            counts: Counts::default(),
+            counts: Counts::new(),
         })
     }
 
@@ -64,9 +53,29 @@ impl Model {
         self.places.len()
     }
 
+    /// Returns how many items are in use.
+    pub fn held(&self) -> usize {
+        self.held
+    }
+
+    /// Returns how many values there are.
+    pub fn existing(&self) -> usize {
+        self.existing
+    }
+
     /// Returns whether no place is empty.
     pub fn is_whole(&self) -> bool {
         self.existing == self.items()
+    }
+
+    /// Returns the most values that there ever were at once.
+    pub fn most(&self) -> usize {
+        self.most
+    }
+
+    /// Returns whether the pool was closed.
+    pub fn is_closed(&self) -> bool {
+        self.is_closed
     }
 
     /// Returns why each pull is refused now, whatever makes values.
@@ -84,40 +93,6 @@ impl Model {
     pub fn has_free(&self, start: usize, count: usize) -> bool {
         let places = self.places.iter().skip(start).take(count);
         places.into_iter().any(|place| !place.is_held)
-    }
-
-    /// Returns the page at which a pull begins after one that begins at this page: the next one, if
-    /// that finds a place, and not there.
-    pub fn page_after(&self, page: usize) -> usize {
-        if self.refusal().is_some() || self.has_free(page.wrapping_mul(32), 32) {
-            return page;
-        }
-        let next = page.wrapping_add(1);
-        next.checked_rem(self.items().div_ceil(32)).unwrap_or(0)
-    }
-
-    /// Whether a pull may come to what was said, if this is why each one is refused: to an item,
-    /// which is returned, or to none. An error if it may not.
-    pub fn pulled(
-        &mut self,
-        said: Said,
-        refusal: Option<PullError>,
-        (refuses, by_init): (bool, bool),
-    ) -> Result<Option<Item>, ()> {
-        let is_fair = match (refusal, said.number(0), said.number(1)) {
-            (None, Some(number), Some(serial)) => {
-                if self.take(number, serial, by_init) {
-                    return Ok(Some((number, serial)));
-                }
-                false
-            }
-            (None, _, _) => {
-                let is_refused = self.is_refused(by_init) && refuses;
-                is_refused && said == refused(PullError::Init)
-            }
-            (Some(cause), _, _) => said == refused(cause),
-        };
-        if is_fair { Ok(None) } else { Err(()) }
     }
 
     /// Makes the value of a place.
@@ -149,11 +124,6 @@ impl Model {
         }
     }
 
-    /// Returns the serial number of the value of an item in use.
-    pub fn serial(&self, number: usize) -> usize {
-        self.place(number).0.unwrap_or(0)
-    }
-
     /// Takes the place that the pool gave. Returns whether it was free, and the value is the one
     /// that lay there, or a new one.
     pub fn take(&mut self, number: usize, serial: usize, by_init: bool) -> bool {
@@ -165,7 +135,7 @@ impl Model {
             self.fill_batch(number, by_init);
         }
         self.set_held(number, true);
-        self.place(number) == (Some(serial), true)
+        self.holds(number, serial)
     }
 
     /// Makes a value at a place, and those that are made with it.
@@ -179,25 +149,19 @@ impl Model {
     }
 
     fn set_held(&mut self, number: usize, is_held: bool) {
+        if let Some(place) = self.places.get_mut(number) {
+            place.is_held = is_held;
+        }
         if is_held {
             self.held = self.held.wrapping_add(1);
-            self.most_held = self.most_held.max(self.held);
         } else {
             self.held = self.held.wrapping_sub(1);
         }
-        if let Some(place) = self.places.get_mut(number) {
-            place.is_held = is_held;
-            self.owned = self.owned.wrapping_sub(place.is_owned as usize);
-            place.is_owned = false;
-        }
     }
 
-    /// The item of this number owns the pool until it is free.
-    pub fn own(&mut self, number: usize) {
-        if let Some(place) = self.places.get_mut(number) {
-            place.is_owned = true;
-            self.owned = self.owned.wrapping_add(1);
-        }
+    /// Returns whether an item in use has this value.
+    pub fn holds(&self, number: usize, serial: usize) -> bool {
+        self.place(number) == (Some(serial), true)
     }
 
     /// Counts a refusal of what makes values. Returns whether there was a place to make one for.

@@ -21,10 +21,10 @@ fn each_pull_of_a_closed_pool_fails(rt: HostRuntime) {
         1,
         "pull; is_closed; close; pull; near; try; owned; wait; owned_wait; timed; owned_timed; \
          with; owned_with; wait_with; owned_wait_with; timed_with; owned_timed_with; fill 1",
-        "pulled 0 0; no; done; closed; closed; closed; closed; \
-         closed; closed; closed; closed; closed; \
-         closed; closed; closed; closed; closed; \
-         closed",
+        "pulled 0 0; no; done; refused closed; refused closed; refused closed; refused closed; \
+         refused closed; refused closed; refused closed; refused closed; refused closed; \
+         refused closed; refused closed; refused closed; refused closed; refused closed; \
+         refused closed",
     );
     plays(
         &rt,
@@ -32,17 +32,17 @@ fn each_pull_of_a_closed_pool_fails(rt: HostRuntime) {
         "pull; close; return 0; pull; near; try; owned; wait; owned_wait; timed; owned_timed; \
          with; owned_with; wait_with; owned_wait_with; timed_with; owned_timed_with; fill 1; \
          is_closed; stands; counts",
-        "pulled 0 0; done; left; closed; closed; closed; closed; \
-         closed; closed; closed; closed; closed; \
-         closed; closed; closed; closed; closed; \
-         closed; yes; made 1 0 0; counts 1 1 1",
+        "pulled 0 0; done; left; refused closed; refused closed; refused closed; refused closed; \
+         refused closed; refused closed; refused closed; refused closed; refused closed; \
+         refused closed; refused closed; refused closed; refused closed; refused closed; \
+         refused closed; yes; made 1 0 0; counts 1 1 1",
     );
     plays(
         &rt,
         33,
         "close; pull; near; try; owned_wait; timed_with; fill 33; stands; counts",
-        "done; closed; closed; closed; closed; closed; \
-         closed; made 0 0 0; counts 0 0 0",
+        "done; refused closed; refused closed; refused closed; refused closed; refused closed; \
+         refused closed; made 0 0 0; counts 0 0 0",
     );
 }
 

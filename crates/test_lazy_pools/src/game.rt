@@ -1,8 +1,9 @@
 //! A game with a lazy pool: a player, and a plain model that judges each of its answers. After each
 //! command all that can be asked is compared.
+use crate::hand::{Hand, Held};
 use crate::plan::Plan;
 use crate::player::LazyPlayer;
-use crate::watch::{Looks, TIME, Watch};
+use crate::timed::{Event, Expected, Looks, NO_TIME_LEFT};
 use lazy_pools::PullError;
 use pool_model::book::Counts;
 use pool_model::model::Model;
@@ -10,186 +11,224 @@ use rows::dice::Dice;
 use rows::game::Game;
 use rows::row::{Command, Player};
 use rows::said::Said;
-use rows::setting::refused;
 use std::sync::{Arc, Wait};
 use std::time::Clock;
+
+/// All that can be asked of a pool between two calls.
+#[derive(Clone, Copy, Debug, PartialEq, Eq)]
+pub struct Standing {
+    items: usize,
+    made: usize,
+    in_use: usize,
+    waiting: usize,
+    is_closed: bool,
+    owners: usize,
+    counts: Counts,
+    /// How many own the book: the game, the pool's closures, and the values.
+    books: usize,
+}
 
 /// A player with its model.
 #[derive(Drop)]
 pub struct LazyGame<'p, R: Wait + Clock> {
     pub player: LazyPlayer<'p, R>,
     pub model: Model,
+    pub hand: Hand,
     /// How often a place near a page was asked for.
     nears: usize,
     /// The page at which the next pull near one begins.
     near_page: usize,
-    /// The clock as it was before the command.
-    clock: Looks,
+    pub event: Event,
+    /// The clock of the next timed pull that waits.
+    pub clock: Looks,
     pub plan: Plan,
-}
-
-/// What is to come of a pull: why it is refused, how many looks it takes, how many are seen to wait,
-/// and whether it sleeps until its time is over.
-#[derive(Drop)]
-struct Expected {
-    refusal: Option<PullError>,
-    looks: usize,
-    waiting: usize,
-    sleeps: bool,
 }
 
 impl<'p, R: Wait + Clock> LazyGame<'p, R> {
     /// Creates the game of a player of a new pool, who holds nothing yet.
-    pub fn new(player: LazyPlayer<'p, R>, model: Model, plan: Plan) -> LazyGame<'p, R> {
+    pub fn new(player: LazyPlayer<'p, R>, model: Model, hand: Hand, plan: Plan) -> LazyGame<'p, R> {
         LazyGame {
-            nears: 0,
-            near_page: 0,
-            clock: player.watch.clock.get(),
             player,
             model,
+            hand,
+            nears: 0,
+            near_page: 0,
+            event: Event::Nothing,
+            clock: NO_TIME_LEFT,
             plan,
         }
     }
 
-    /// Whether the pool stands as it is to: all that can be asked between two calls, and how many own
-    /// the book, which are the game, the pool's closures, and the values.
-    fn is_standing(&self) -> bool {
-        let (model, near) = (&self.model, &self.player.near);
-        let Watch { pool, book, .. } = self.player.watch;
-        let made = if self.plan.is_lean {
-            model.most_held
-        } else {
-            model.most
+    /// Returns how the pool stands.
+    pub fn standing(&self) -> Standing {
+        let LazyPlayer { pool, book, .. } = &self.player;
+        Standing {
+            items: pool.items(),
+            made: pool.made(),
+            in_use: pool.in_use(),
+            waiting: pool.waiting(),
+            is_closed: pool.is_closed(),
+            owners: Arc::strong_count(pool),
+            counts: book.counts(),
+            books: Arc::strong_count(book),
+        }
+    }
+
+    /// Returns how it is to stand.
+    pub fn expected(&self) -> Standing {
+        let model = &self.model;
+        Standing {
+            items: model.items(),
+            made: if self.plan.is_lean {
+                self.hand.most()
+            } else {
+                model.most()
+            },
+            in_use: model.held(),
+            waiting: 0,
+            is_closed: model.is_closed(),
+            owners: self
+                .hand
+                .owned()
+                .saturating_add(self.event.owners())
+                .saturating_add(1),
+            counts: model.counts,
+            books: model.existing().saturating_add(3),
+        }
+    }
+
+    /// Notes an item that was pulled. Returns whether it wasn't held.
+    pub fn hold(&mut self, number: usize, serial: usize, is_owned: bool) -> bool {
+        let held = Held {
+            number,
+            serial,
+            is_owned,
         };
-        book.counts() == model.counts
-            && (pool.items(), pool.made()) == (model.items(), made)
-            && (pool.in_use(), pool.waiting()) == (model.held, 0)
-            && pool.is_closed() == model.is_closed
-            && Arc::strong_count(pool) == model.owned.saturating_add(1)
-            && Arc::strong_count(book) == model.existing.saturating_add(3)
-            && near.page_number() == self.near_page
+        self.hand.hold(held, self.model.held())
     }
 
     /// An item leaves by this word.
-    fn leaves(&mut self, word: &str, number: usize) {
+    pub fn leaves(&mut self, word: &str, held: Held) {
         match word {
-            "discard" | "detach" => self.model.discard(number),
-            _ => {
-                let rejects = self.player.watch.book.rejects();
-                self.model.give_back(number, rejects);
+            "return" | "give_back" | "reset_first" => {
+                let rejects = self.player.book.rejects();
+                self.model.give_back(held.number, rejects);
             }
+            _ => self.model.discard(held.number),
         }
     }
 
     /// Whether a pull may come to this.
     fn is_fair_pull(&mut self, word: &'static str, said: Said) -> bool {
         let by_init = !word.contains("with");
-        let mut expected = Expected {
-            refusal: self.model.refusal(),
-            looks: 0,
-            waiting: 0,
-            sleeps: false,
-        };
-        if word.contains("timed") && expected.refusal == Some(PullError::Limit) {
-            self.waits(&mut expected);
+        let is_timed = word.contains("timed");
+        let mut expected = Expected::at_once(self.model.refusal());
+        if is_timed && expected.refusal == Some(PullError::Limit) {
+            expected = self.waits();
+            self.clock = Looks {
+                at: self.clock.at,
+                ..NO_TIME_LEFT
+            };
         }
-        let Watch {
-            looks,
-            waiting,
-            used,
-            book,
-            ..
-        } = &self.player.watch;
+        let watch = &self.player.watch;
         if expected.sleeps {
             return said.words() == "slept";
         }
-        if (looks.get(), waiting.get()) != (expected.looks, expected.waiting) {
+        if is_timed && (watch.looks(), watch.waiting()) != (expected.looks, expected.waiting) {
             return false;
         }
-        let (used, refuses, made) = (used.get(), book.refuses(), self.model.counts.made);
-        let begun = self.near_page;
-        if word == "near" {
-            self.near_page = self.model.page_after(begun);
-        }
-        let pulled = self
-            .model
-            .pulled(said, expected.refusal, (refuses, by_init));
+        let made = self.model.counts.made;
+        let fits = self.comes_to(word, by_init, said, expected.refusal);
         let is_called = !by_init && made != self.model.counts.made;
-        if is_called && used != self.model.held {
-            return false;
+        fits && (!is_called || self.player.seen.get() == self.model.held())
+    }
+
+    fn comes_to(
+        &mut self,
+        word: &str,
+        by_init: bool,
+        said: Said,
+        refusal: Option<PullError>,
+    ) -> bool {
+        let begun = self.near_page;
+        if word == "near" && refusal.is_none() {
+            self.go_on();
         }
-        match pulled {
-            Ok(Some((number, _))) => {
-                if word.contains("owned") {
-                    self.model.own(number);
-                }
-                let is_near = word != "near" || begun != self.near_page || number / 32 == begun;
-                said.words() == "pulled" && is_near
+        match (said.words(), said.number(0), said.number(1)) {
+            ("pulled", Some(number), Some(serial)) => {
+                let is_near = self.is_near(word, begun, number);
+                let fits = self.model.take(number, serial, by_init);
+                self.hold(number, serial, word.contains("owned"))
+                    && fits
+                    && is_near
+                    && refusal.is_none()
             }
-            answer => answer.is_ok(),
+            ("refused init", None, None) => {
+                self.player.book.refuses() && self.model.is_refused(by_init) && refusal.is_none()
+            }
+            ("refused limit", None, None) => refusal == Some(PullError::Limit),
+            ("refused closed", None, None) => refusal == Some(PullError::Closed),
+            _ => false,
         }
     }
 
-    /// What is to come of a timed pull of a full pool. It looks at its clock before it counts as
-    /// waiting; again before each sleep; and before it makes an item, which may come too late.
-    fn waits(&mut self, expected: &mut Expected) {
-        let mut is_told = false;
-        self.look(expected, &mut is_told);
-        let is_readable = self.clock.fails != 1;
-        for _ in 0..4 {
-            expected.refusal = self.model.refusal();
-            let finds_place = expected.refusal.is_none();
-            if finds_place && self.model.is_whole() || self.model.is_closed {
-                return;
-            }
-            let has_time = is_readable && self.look(expected, &mut is_told);
-            if !has_time {
-                expected.refusal = Some(PullError::Limit);
-            }
-            if !has_time || finds_place {
-                return;
-            }
-            expected.sleeps = !is_told;
-            is_told = false;
+    /// A pull near a page, which finds a place. If the page has none, the next such pull begins a
+    /// page further.
+    fn go_on(&mut self) {
+        let page = self.near_page;
+        if !self.model.has_free(page.wrapping_mul(32), 32) {
+            let pages = self.model.items().div_ceil(32);
+            self.near_page = page.wrapping_add(1).checked_rem(pages).unwrap_or(0);
         }
     }
 
-    /// Looks at the clock. Returns whether it says that time is left.
-    fn look(&mut self, expected: &mut Expected, is_told: &mut bool) -> bool {
-        let clock = self.clock;
-        let passed = clock.step.saturating_mul(expected.looks);
-        expected.looks = expected.looks.saturating_add(1);
-        if expected.looks == clock.at {
-            expected.waiting = clock.at.saturating_sub(1).min(1);
-            *is_told = clock.event != "";
-            self.happens();
-        }
-        expected.looks != clock.fails && passed < TIME
+    /// Whether a pull by this word may find this item, if pulls near a page began at this one.
+    fn is_near(&self, word: &str, begun: usize, number: usize) -> bool {
+        word != "near" || begun != self.near_page || number / 32 == begun
     }
 
-    /// Does what happens at the look.
-    fn happens(&mut self) {
-        let Looks { event, number, .. } = self.clock;
-        match event {
-            "" => {}
-            "then_close" => self.model.close(),
-            "then_return" => self.leaves("return", number),
-            "then_discard" => self.leaves("discard", number),
-            _ => self.swaps(number),
+    /// Whether what an item leaves by is answered so.
+    fn is_fair_leave(&mut self, word: &str, number: usize, said: Said) -> bool {
+        match self.hand.taken(number) {
+            Some(held) => {
+                self.leaves(word, held);
+                said.words() == "left"
+            }
+            None => said.words() == "nothing is held",
         }
     }
 
-    /// An item is returned, and pulled again, or made in its place.
-    fn swaps(&mut self, number: usize) {
-        let serial = self.model.serial(number);
-        self.leaves("return", number);
-        let is_kept = self.model.is_whole();
-        if !is_kept && self.player.watch.book.refuses() {
-            self.model.is_refused(true);
+    /// Notes what is to happen at a look. Whether that is answered so.
+    fn is_fair_event(&mut self, word: &str, numbers: [usize; 3], said: Said) -> bool {
+        let [number, step, at] = numbers;
+        let event = match (word, self.taken(word, number)) {
+            ("then_close", _) => Event::Close,
+            ("then_return", Some(held)) => Event::Return(held),
+            ("then_discard", Some(held)) => Event::Discard(held),
+            ("then_swap", Some(held)) => Event::Swap(held),
+            _ => return said.words() == "nothing is held",
+        };
+        if let Some(before) = self.event.held() {
+            self.leaves("return", before);
+        }
+        self.event = event;
+        self.clock = Looks { step, fails: 0, at };
+        said.words() == "set"
+    }
+
+    /// Takes the item that leaves at a look.
+    fn taken(&mut self, word: &str, number: usize) -> Option<Held> {
+        if word == "then_close" {
+            None
         } else {
-            let made = self.model.counts.made;
-            let serial = if is_kept { serial } else { made };
-            self.model.take(number, serial, true);
+            self.hand.taken(number)
+        }
+    }
+
+    fn cleared(&mut self, word: &str) {
+        match word {
+            "clear" => self.model.clear(),
+            _ => self.model.close(),
         }
     }
 
@@ -205,64 +244,63 @@ impl<'p, R: Wait + Clock> LazyGame<'p, R> {
         said.number(0) == page
     }
 
-    /// Whether this is said to what leaves its holder, now or at a look. What was to leave at one
-    /// before is returned.
-    fn is_fair_leave(&mut self, word: &'static str, number: usize, said: Said) -> bool {
-        if said.words() == "nothing is held" {
-            return true;
+    /// Whether a filling may come to this.
+    fn is_fair_filling(&mut self, items: usize, said: Said) -> bool {
+        let refuses = self.player.book.refuses();
+        match self.model.fill(items, refuses) {
+            Ok(()) => said.words() == "filled",
+            Err(PullError::Init) => said.words() == "refused init",
+            Err(_) => said.words() == "refused closed",
         }
-        let Looks {
-            event,
-            number: before,
-            ..
-        } = self.clock;
-        if !word.starts_with("then_") {
-            self.leaves(word, number);
-        } else if event != "" && event != "then_close" {
-            self.leaves("return", before);
-        }
-        matches!(said.words(), "left" | "set")
     }
 }
 
 impl<'p, R: Wait + Clock> Player for LazyGame<'p, R> {
     fn play(&mut self, command: Command) -> Said {
-        self.clock = self.player.watch.clock.get();
         self.player.play(command)
     }
 }
 
 impl<'p, R: Wait + Clock> Game for LazyGame<'p, R> {
     fn draw(&mut self, dice: &mut Dice) -> Command {
-        self.next_command(dice)
+        self.plan.steps = self.plan.steps.wrapping_add(1);
+        if let Some(command) = self.plan.next_command() {
+            return command;
+        }
+        self.plan_next(dice);
+        self.plan.next_command().unwrap_or(Command {
+            word: "stands",
+            numbers: [0; 3],
+        })
     }
 
     fn is_fair(&mut self, command: Command, said: Said) -> bool {
         let Command {
             word,
-            numbers: [number, _, _],
+            numbers: [first, second, _],
         } = command;
         let fits = match word {
             "return" | "give_back" | "reset_first" | "discard" | "detach" => {
-                self.is_fair_leave(word, number, said)
+                self.is_fair_leave(word, first, said)
             }
-            "fill" => {
-                let refuses = self.player.watch.book.refuses();
-                let filled = self.model.fill(number, refuses);
-                said == filled.map_or_else(refused, |()| Said::of("filled"))
+            "then_close" | "then_return" | "then_discard" | "then_swap" => {
+                self.is_fair_event(word, command.numbers, said)
             }
+            "clock" => {
+                self.clock.step = first;
+                self.clock.fails = second;
+                said.words() == "set"
+            }
+            "fill" => self.is_fair_filling(first, said),
             "near_page" => self.is_fair_page(said),
             "clear" | "close" => {
-                match word {
-                    "clear" => self.model.clear(),
-                    _ => self.model.close(),
-                }
+                self.cleared(word);
                 said.words() == "done"
             }
-            "stands" | "clock" | "refuse" | "allow" | "reject" | "accept" => true,
-            _ if word.starts_with("then_") => self.is_fair_leave(word, number, said),
+            "stands" | "refuse" | "allow" | "reject" | "accept" => true,
             _ => self.is_fair_pull(word, said),
         };
-        fits && self.is_standing()
+        fits && self.standing() == self.expected()
+            && self.player.near.page_number() == self.near_page
     }
 }

@@ -1,16 +1,14 @@
 //! The pool of these tests, and its items, however they were pulled.
 use lazy_pools::lazy_object_pool::lazy_refused::{LazyRefused, PullWithError};
-use lazy_pools::lazy_reusable::{LazyReusableOf, SharedLazyPool};
 use lazy_pools::page::PullPass;
 use lazy_pools::{LazyObjectPool, LazyOwnedReusable, LazyReusable, PullError};
-use pool_model::model::Item as Seen;
 use pool_model::value::{Closures, Value};
 use pool_parts::reusable::Reusable;
 use std::mem;
 
 pub type Pool = LazyObjectPool<Value, Closures, Closures>;
 
-type Borrowed<'p> = LazyReusable<'p, Value, Closures, Closures>;
+pub type Borrowed<'p> = LazyReusable<'p, Value, Closures, Closures>;
 
 pub type Owned = LazyOwnedReusable<Value, Closures, Closures>;
 
@@ -21,47 +19,76 @@ pub enum Item<'p> {
     Owned(Owned),
 }
 
-/// What a pull of a borrowed item came to.
-pub fn borrowed<'p>(pulled: Result<Borrowed<'p>, PullError>) -> Result<Item<'p>, PullError> {
-    Ok(Item::Borrowed(pulled?))
-}
-
-/// What a pull of an owned item came to.
-pub fn owned<'p>(pulled: Result<Owned, PullError>) -> Result<Item<'p>, PullError> {
-    Ok(Item::Owned(pulled?))
-}
-
 impl<'p> Item<'p> {
-    /// Returns its number in the pool, and how many values were made before its value.
-    pub fn seen(&self) -> Seen {
+    /// Returns its number in the pool.
+    pub fn number(&self) -> usize {
         match self {
-            Item::Borrowed(item) => (item.number(), item.serial),
-            Item::Owned(item) => (item.number(), item.serial),
+            Item::Borrowed(item) => item.number(),
+            Item::Owned(item) => item.number(),
         }
     }
 
-    /// It leaves its holder in this way.
-    pub fn leave(self, way: &str) {
+    /// Returns how many values were made before its value.
+    pub fn serial(&self) -> usize {
         match self {
-            Item::Borrowed(item) => leave(item, way),
-            Item::Owned(item) => leave(item, way),
+            Item::Borrowed(item) => item.serial,
+            Item::Owned(item) => item.serial,
         }
     }
-}
 
-fn leave<P: SharedLazyPool<Value>>(item: LazyReusableOf<Value, P>, way: &str) {
-    match way {
-        "give_back" => drop(item.give_back()),
-        // as a worker does it
-        "reset_first" => {
-            if let Ok(left) = item.try_reset() {
-                left.give_kept();
+    pub fn give_back(self) {
+        match self {
+            Item::Borrowed(item) => drop(item.give_back()),
+            Item::Owned(item) => drop(item.give_back()),
+        }
+    }
+
+    /// Resets the value, and returns it as it is if the reset keeps it.
+    pub fn reset_first(self) {
+        match self {
+            Item::Borrowed(item) => {
+                if let Ok(left) = item.try_reset() {
+                    left.give_kept();
+                }
+            }
+            Item::Owned(item) => {
+                if let Ok(left) = item.try_reset() {
+                    left.give_kept();
+                }
             }
         }
-        "discard" => drop(item.discard()),
-        "detach" => drop(item.detach()),
-        "forget" => mem::forget(item),
-        _ => drop(item),
+    }
+
+    pub fn discard(self) {
+        match self {
+            Item::Borrowed(item) => drop(item.discard()),
+            Item::Owned(item) => drop(item.discard()),
+        }
+    }
+
+    pub fn detach(self) {
+        match self {
+            Item::Borrowed(item) => drop(item.detach()),
+            Item::Owned(item) => drop(item.detach()),
+        }
+    }
+
+    pub fn forget(self) {
+        mem::forget(self);
+    }
+}
+
+pub fn borrowed<'p>(pulled: Result<Borrowed<'p>, PullError>) -> Result<Item<'p>, PullError> {
+    match pulled {
+        Ok(item) => Ok(Item::Borrowed(item)),
+        Err(cause) => Err(cause),
+    }
+}
+
+pub fn owned<'p>(pulled: Result<Owned, PullError>) -> Result<Item<'p>, PullError> {
+    match pulled {
+        Ok(item) => Ok(Item::Owned(item)),
+        Err(cause) => Err(cause),
     }
 }
 
@@ -85,9 +112,4 @@ pub fn tried(pool: &Pool) -> Result<Item<'_>, PullError> {
         Err(LazyRefused::NotMade) => Err(PullError::Init),
         Err(LazyRefused::Closed) => Err(PullError::Closed),
     }
-}
-
-/// Makes no value.
-pub fn never() -> Result<Value, PullError> {
-    Err(PullError::Init)
 }

@@ -4,9 +4,13 @@
 #[cfg(test)]
 mod closing;
 #[cfg(test)]
+mod closing_threads;
+#[cfg(test)]
 mod game;
 #[cfg(test)]
 mod games;
+#[cfg(test)]
+mod hand;
 #[cfg(test)]
 mod items;
 #[cfg(test)]
@@ -30,6 +34,10 @@ mod sends;
 #[cfg(test)]
 mod threads;
 #[cfg(test)]
+mod timed;
+#[cfg(test)]
 mod times;
+#[cfg(test)]
+mod wakings;
 #[cfg(test)]
 mod watch;

@@ -19,7 +19,7 @@ fn a_pull_of_one_pass_tells_why_it_has_nothing(rt: HostRuntime) {
         &rt,
         2,
         "try; refuse; try; allow; try; try; close; try",
-        "pulled 0 0; done; refused init; done; pulled 1 1; refused limit; done; closed",
+        "pulled 0 0; done; refused init; done; pulled 1 1; refused limit; done; refused closed",
     );
 }
 
@@ -84,8 +84,8 @@ fn a_refused_pull_keeps_no_owner(rt: HostRuntime) {
          owned; owned_with; owned_wait; owned_wait_with; owned_timed; owned_timed_with; owners",
         "done; refused init; refused init; refused init; refused init; refused init; refused init; \
          owners 1; done; pulled 0 0; refused limit; refused limit; refused limit; refused limit; \
-         owners 1; done; closed; closed; closed; closed; \
-         closed; closed; owners 1",
+         owners 1; done; refused closed; refused closed; refused closed; refused closed; \
+         refused closed; refused closed; owners 1",
     );
 }
 

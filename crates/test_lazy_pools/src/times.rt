@@ -27,13 +27,13 @@ fn a_closing_beside_a_waiter_is_found(rt: HostRuntime) {
         &rt,
         1,
         "pull; then_close 0 1000 1; timed; looks; stands; return 0; counts",
-        "pulled 0 0; set; closed; looks 1 0; made 1 1 0; left; counts 1 1 1",
+        "pulled 0 0; set; refused closed; looks 1 0; made 1 1 0; left; counts 1 1 1",
     );
     plays(
         &rt,
         1,
         "pull; then_close 0 1000 2; owned_timed_with; looks; stands; return 0; counts",
-        "pulled 0 0; set; closed; looks 2 1; made 1 1 0; left; counts 1 1 1",
+        "pulled 0 0; set; refused closed; looks 2 1; made 1 1 0; left; counts 1 1 1",
     );
 }
 

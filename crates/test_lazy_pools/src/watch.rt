@@ -1,77 +1,110 @@
-//! What a lazy pool is asked by: it makes values, and is the clock of timed pulls, which says what
-//! time it is by the number of its looks.
+//! The clock of timed pulls, which says what time it is by the number of its looks.
 //!
 //! A timed pull of a full pool looks at it once before it counts as waiting, and then between each
 //! try and its sleep. What is to happen at one of these looks happens there, in the same thread; what
 //! is to happen at look 0, in the closure of the next call.
-use crate::items::{Item, Pool, borrowed, made, never};
-use lazy_pools::PullError;
-use pool_model::book::Book;
-use pool_model::value::Value;
+use crate::items::{Item, Pool, borrowed};
 use std::cell::Cell;
 use std::io::{self, ErrorKind};
-use std::sync::{Arc, Wait};
-use std::thread;
+use std::sync::Wait;
 use std::time::{Clock, Duration};
 
-/// The limit of each timed pull, in milliseconds.
-pub const TIME: usize = 10_000;
+/// The limit of each timed pull, in seconds.
+pub const LIMIT: u64 = 10;
 
-/// How many milliseconds no call takes that doesn't sleep.
-const MOST: u64 = 8_000;
+/// How many milliseconds the clock shows at its first look.
+const START: u64 = 1;
 
-/// What a timed pull meets.
-#[derive(Clone, Copy)]
-pub struct Looks {
-    /// How many milliseconds pass between two looks, until far more do.
-    pub step: usize,
-    /// The look that fails, counted from 1.
-    pub fails: usize,
-    /// The look at which something happens.
-    pub at: usize,
-    /// What happens then, and the item that leaves, or how many items the pool is filled with.
-    pub event: &'static str,
-    pub number: usize,
+/// How many seconds no call takes that doesn't sleep.
+const MOST_SECONDS: u64 = 3;
+
+/// What happens at a look.
+#[derive(Drop)]
+pub enum Event<'p> {
+    Nothing,
+    Close,
+    /// An item is returned.
+    Return(Item<'p>),
+    Discard(Item<'p>),
+    /// An item is reset and returned, as a worker does it, and one is pulled.
+    Swap(Item<'p>),
+    /// The pool is filled with so many items.
+    Fill(usize),
 }
 
+impl<'p> Event<'p> {
+    /// Lets it happen. Returns what was pulled.
+    pub fn happen(self, pool: &'p Pool) -> Option<Item<'p>> {
+        match self {
+            Event::Nothing => {}
+            Event::Close => pool.close(),
+            Event::Return(item) => drop(item),
+            Event::Discard(item) => item.discard(),
+            Event::Swap(item) => {
+                item.reset_first();
+                return borrowed(pool.pull()).ok();
+            }
+            Event::Fill(items) => drop(pool.fill(items)),
+        }
+        None
+    }
+}
+
+/// Such a clock.
 #[derive(Drop)]
 pub struct Watch<'p, R: Wait + Clock> {
-    pub rt: &'p R,
-    pub pool: &'p Arc<Pool>,
-    pub book: &'p Arc<Book>,
-    pub clock: Cell<Looks>,
-    /// The item that leaves, and what was pulled when it left.
-    pub item: Cell<Option<Item<'p>>>,
-    pub swapped: Cell<Option<Item<'p>>>,
-    /// How many looks the pull took, and how many were seen to wait when something happened.
-    pub looks: Cell<usize>,
-    pub waiting: Cell<usize>,
-    /// How many items were in use when a closure of a call was called last.
-    pub used: Cell<usize>,
+    rt: &'p R,
+    pool: &'p Pool,
+    /// The look at which something happens, counted from 1.
+    at: Cell<u64>,
+    /// How many milliseconds pass between two looks, until far more do.
+    step: Cell<u64>,
+    /// The look that fails.
+    fails: Cell<u64>,
+    event: Cell<Event<'p>>,
+    /// What was pulled at the look.
+    swapped: Cell<Option<Item<'p>>>,
+    looks: Cell<u64>,
+    /// How many were seen to wait at the look.
+    waiting: Cell<usize>,
     /// When the pull began.
     start: Cell<Option<Duration>>,
 }
 
 impl<'p, R: Wait + Clock> Watch<'p, R> {
     /// Creates a clock by which the limit is over at the second look.
-    pub fn new(rt: &'p R, pool: &'p Arc<Pool>, book: &'p Arc<Book>) -> Watch<'p, R> {
+    pub fn new(rt: &'p R, pool: &'p Pool) -> Watch<'p, R> {
         Watch {
             rt,
             pool,
-            book,
-            clock: Cell::new(Looks {
-                step: TIME,
-                fails: 0,
-                at: 0,
-                event: "",
-                number: 0,
-            }),
-            item: Cell::new(None),
+            at: Cell::new(0),
+            step: Cell::new(LIMIT * 1_000),
+            fails: Cell::new(0),
+            event: Cell::new(Event::Nothing),
             swapped: Cell::new(None),
             looks: Cell::new(0),
             waiting: Cell::new(0),
-            used: Cell::new(0),
             start: Cell::new(None),
+        }
+    }
+
+    /// Says how many milliseconds pass between two looks, and which look fails, if one does.
+    pub fn set(&self, step: usize, fails: usize) {
+        self.step.set(step as u64);
+        self.fails.set(fails as u64);
+    }
+
+    /// Says what happens at a look.
+    pub fn expect(&self, event: Event<'p>, at: usize) {
+        self.at.set(at as u64);
+        self.event.set(event);
+    }
+
+    /// A pull ends. After one that looked at it, this is again a clock by which the limit is over at
+    /// the second look.
+    pub fn end(&self) {
+        if self.looks.get() > 0 {
+            self.set(LIMIT as usize * 1_000, 0);
         }
     }
 
@@ -82,105 +115,66 @@ impl<'p, R: Wait + Clock> Watch<'p, R> {
         self.start.set(self.rt.monotonic().ok());
     }
 
-    /// A pull ends. After one that looked at it, this is again a clock by which the limit is over at
-    /// the second look. Returns whether the pull took as long as one that sleeps.
-    pub fn end(&self) -> bool {
-        if self.looks.get() == 0 {
-            return false;
-        }
-        self.clock.set(Looks {
-            step: TIME,
-            fails: 0,
-            ..self.clock.get()
-        });
-        self.took() >= Some(Duration::from_millis(MOST))
-    }
-
-    /// Returns how long the pull took until now.
-    pub fn took(&self) -> Option<Duration> {
-        let end = self.rt.monotonic().ok()?;
-        Some(end.saturating_sub(self.start.get()?))
-    }
-
-    /// Makes the value of a call, whose closure has an owner of the book. The place for it is in use
-    /// meanwhile, and the pool isn't locked: if nothing is free, another pull is refused.
-    pub fn make(&self, book: Arc<Book>) -> Result<Value, PullError> {
-        let used = self.pool.in_use();
-        self.used.set(used);
-        let is_full = used == self.pool.items();
-        if is_full && made(self.pool.pull_with(never)).err() != Some(PullError::Limit) {
-            return Err(PullError::Memory);
-        }
-        if self.clock.get().at == 0 {
-            self.happen();
-        }
-        Value::new(&book).ok_or(PullError::Init)
-    }
-
-    /// Lets happen what is to happen.
-    fn happen(&self) {
-        let clock = self.clock.get();
-        let is_late = clock.event == "then_late";
-        self.waiting.set(self.pool.waiting());
-        self.clock.set(Looks {
-            event: if is_late { "late" } else { "" },
-            ..clock
-        });
-        match (clock.event, self.item.take()) {
-            ("then_close", _) => self.pool.close(),
-            ("then_fill", _) => drop(self.pool.fill(clock.number)),
-            ("then_swap", Some(item)) => {
-                item.leave("reset_first");
-                self.swapped.set(borrowed(self.pool.pull()).ok());
+    /// Returns whether the pull took as long as one that sleeps.
+    pub fn has_slept(&self) -> bool {
+        match (self.start.get(), self.rt.monotonic()) {
+            (Some(start), Ok(end)) => {
+                end.saturating_sub(start) >= Duration::from_secs(MOST_SECONDS)
             }
-            ("then_discard" | "then_late", Some(item)) => item.leave("discard"),
-            (_, item) => drop(item),
+            _ => true,
         }
     }
 
-    /// Lets another thread begin to wait for an item, and sleep.
-    fn let_wait(&self) {
-        self.book.come();
-        wait_until(self.rt, || self.pool.waiting() == 1);
-        thread::sleep(self.rt, Duration::from_millis(30));
+    /// Returns how many looks the pull took.
+    pub fn looks(&self) -> usize {
+        self.looks.get() as usize
     }
-}
 
-/// Whether something comes within 30 seconds, which is asked each millisecond.
-pub fn wait_until<R: Clock, F: Fn() -> bool>(rt: &R, has_come: F) -> bool
-    requires { F.pre has_come }
-{
-    for _ in 0..30_000u32 {
-        if has_come() {
-            return true;
-        }
-        thread::sleep(rt, Duration::from_millis(1));
+    /// Returns how many were seen to wait.
+    pub fn waiting(&self) -> usize {
+        self.waiting.get()
     }
-    false
+
+    /// Returns what was pulled at the look.
+    pub fn swapped(&self) -> Option<Item<'p>> {
+        self.swapped.take()
+    }
+
+    /// Takes what was to happen. If that is at no look, it happens in the closure of the call.
+    pub fn take_event(&self) -> Event<'p> {
+        self.event.replace(Event::Nothing)
+    }
+
+    /// Returns whether nothing happens at a look.
+    pub fn is_at_no_look(&self) -> bool {
+        self.at.get() == 0
+    }
+
+    fn happen(&self) {
+        self.waiting.set(self.pool.waiting());
+        let swapped = self.take_event().happen(self.pool);
+        self.swapped.set(swapped);
+    }
 }
 
 impl<'p, R: Wait + Clock> Wait for Watch<'p, R> {}
 
 impl<'p, R: Wait + Clock> Clock for Watch<'p, R> {
     fn monotonic(&self) -> io::Result<Duration> {
-        let clock = self.clock.get();
-        let before = self.looks.get();
-        let look = before.saturating_add(1);
-        self.looks.set(look);
-        if look == clock.at {
-            self.happen();
-        } else if clock.event == "late" {
-            self.let_wait();
-        }
-        if look == clock.fails {
-            return Err(io::Error::from(ErrorKind::InvalidData));
-        }
-        let passed = if before < 4 {
-            before.saturating_mul(clock.step)
+        let passed = if self.looks.get() < 4 {
+            self.looks.get().wrapping_mul(self.step.get())
         } else {
             1_000_000_000
         };
-        Ok(Duration::from_millis((passed as u64).wrapping_add(1)))
+        let look = self.looks.get().wrapping_add(1);
+        self.looks.set(look);
+        if look == self.at.get() {
+            self.happen();
+        }
+        if look == self.fails.get() {
+            return Err(io::Error::from(ErrorKind::InvalidData));
+        }
+        Ok(Duration::from_millis(passed.wrapping_add(START)))
     }
 
     fn since_1970(&self) -> io::Result<Duration> {

@@ -9,9 +9,9 @@ const ONE: [Room; 1] = [None];
 fn a_worker_of_a_fixed_pool_keeps_an_item_and_returns_it_at_its_end(rt: HostRuntime) {
     let kept = (
         "turn*4; visit; counts",
-        "turned 0 0 1+; refused limit; counts 1 4 0",
+        "turned 0 0 1+; refused limit; calls 1 resets 4 drops 0",
     );
-    let returned = ("visit; counts", "visited 0 0; counts 1 5 0");
+    let returned = ("visit; counts", "visited 0 0; calls 1 resets 5 drops 0");
     plays(&rt, Kind::Fixed(1), &ONE, &[kept, returned]);
 }
 
@@ -23,7 +23,7 @@ fn a_worker_of_a_lazy_pool_keeps_an_item_and_returns_it_at_its_end(rt: HostRunti
     );
     let returned = (
         "stands; visit; stands; counts",
-        "made 1 uses 0; visited 0 0; made 1 uses 0; counts 1 5 0",
+        "made 1 uses 0; visited 0 0; made 1 uses 0; calls 1 resets 5 drops 0",
     );
     plays(&rt, Kind::Lazy(1), &ONE, &[kept, returned]);
 }
@@ -32,7 +32,7 @@ fn a_worker_of_a_lazy_pool_keeps_an_item_and_returns_it_at_its_end(rt: HostRunti
 #[test]
 fn a_worker_of_a_linear_pool_keeps_an_item_and_returns_it_at_its_end(rt: HostRuntime) {
     let kept = ("turn*4; visit", "turned 0 0 1+; visited 1 1");
-    let returned = ("visit; counts", "visited 0 0; counts 32 6 0");
+    let returned = ("visit; counts", "visited 0 0; calls 32 resets 6 drops 0");
     plays(&rt, Kind::Linear(1), &ONE, &[kept, returned]);
 }
 
@@ -43,11 +43,11 @@ fn of_two_items_one_is_kept_and_the_other_is_returned(rt: HostRuntime) {
         "pull*2; return 1; return; stands; counts; \
          pull; pull; return 1; return; stands; counts; \
          pull; pull; return 1; return; stands; counts",
-        "pulled 0+ 0+; returned; returned; made 2 uses 1; counts 2 2 0; \
-         pulled 1 1; pulled 0 0; returned; returned; made 2 uses 1; counts 2 4 0; \
-         pulled 0 0; pulled 1 1; returned; returned; made 2 uses 1; counts 2 6 0",
+        "pulled 0+ 0+; returned; returned; made 2 uses 1; calls 2 resets 2 drops 0; \
+         pulled 1 1; pulled 0 0; returned; returned; made 2 uses 1; calls 2 resets 4 drops 0; \
+         pulled 0 0; pulled 1 1; returned; returned; made 2 uses 1; calls 2 resets 6 drops 0",
     );
-    let returned = ("stands; counts", "made 2 uses 0; counts 2 6 0");
+    let returned = ("stands; counts", "made 2 uses 0; calls 2 resets 6 drops 0");
     plays(&rt, Kind::Lazy(2), &ONE, &[kept, returned]);
     plays(&rt, Kind::Lazy(2), &[Some(1)], &[kept, returned]);
 }
@@ -66,7 +66,7 @@ fn what_comes_back_first_is_kept(rt: HostRuntime) {
 fn a_worker_of_a_fixed_pool_of_two_returns_the_second(rt: HostRuntime) {
     let returned = (
         "pull*2; pull; return 1; return; counts; visit",
-        "pulled 0+ 0+; refused limit; returned; returned; counts 2 2 0; visited 0 0",
+        "pulled 0+ 0+; refused limit; returned; returned; calls 2 resets 2 drops 0; visited 0 0",
     );
     plays(&rt, Kind::Fixed(2), &ONE, &[returned]);
 }
@@ -75,15 +75,15 @@ fn a_worker_of_a_fixed_pool_of_two_returns_the_second(rt: HostRuntime) {
 fn a_worker_of_a_linear_pool_returns_the_second(rt: HostRuntime) {
     let returned = (
         "pull*2; return 1; return; counts; visit",
-        "pulled 0+ 0+; returned; returned; counts 32 2 0; visited 0 0",
+        "pulled 0+ 0+; returned; returned; calls 32 resets 2 drops 0; visited 0 0",
     );
-    let counted = ("counts", "counts 32 3 0");
+    let counted = ("counts", "calls 32 resets 3 drops 0");
     plays(&rt, Kind::Linear(1), &ONE, &[returned, counted]);
 }
 
 #[test]
 fn a_worker_that_kept_nothing_returns_nothing(rt: HostRuntime) {
-    let nothing = ("counts; stands", "counts 0 0 0; made 0 uses 0");
+    let nothing = ("counts; stands", "calls 0 resets 0 drops 0; made 0 uses 0");
     plays(&rt, Kind::Lazy(1), &ONE, &[nothing, nothing]);
 }
 
@@ -92,15 +92,15 @@ fn a_worker_that_kept_nothing_returns_nothing(rt: HostRuntime) {
 fn what_the_reset_rejects_is_not_kept(rt: HostRuntime) {
     let rejected = (
         "reject; turn; counts; stands; accept; turn; counts; stands",
-        "done; turned 0 0 1; counts 1 1 1; made 1 uses 0; \
-         done; turned 0 1 2; counts 2 2 1; made 1 uses 1",
+        "done; turned 0 0 1; calls 1 resets 1 drops 1; made 1 uses 0; \
+         done; turned 0 1 2; calls 2 resets 2 drops 1; made 1 uses 1",
     );
-    let kept = ("counts; stands", "counts 2 2 1; made 1 uses 0");
+    let kept = ("counts; stands", "calls 2 resets 2 drops 1; made 1 uses 0");
     plays(&rt, Kind::Lazy(1), &ONE, &[rejected, kept]);
     plays(&rt, Kind::Lazy(2), &ONE, &[rejected, kept]);
     let all = (
         "pull*65; reject; return*65; stands; counts",
-        "pulled _ 0+; done; returned; made 65 uses 0; counts 65 65 65",
+        "pulled _ 0+; done; returned; made 65 uses 0; calls 65 resets 65 drops 65",
     );
     plays(&rt, Kind::Lazy(65), &ONE, &[all]);
 }
@@ -111,9 +111,9 @@ fn a_worker_with_room_for_two_gives_the_last_first(rt: HostRuntime) {
     let kept = (
         "pull*3; return*3; visit; pull; pull; pull; return*3; counts",
         "pulled 0+ 0+; returned; visited 2 2; pulled 1 1; pulled 0 0; pulled 2 2; returned; \
-         counts 3 7 0",
+         calls 3 resets 7 drops 0",
     );
-    let returned = ("counts", "counts 3 7 0");
+    let returned = ("counts", "calls 3 resets 7 drops 0");
     plays(&rt, Kind::Fixed(3), &[Some(2)], &[kept, returned]);
 }
 
@@ -125,7 +125,7 @@ fn a_worker_with_much_room_keeps_all(rt: HostRuntime) {
         "pulled 0+ 0+; refused limit; returned; made 3 uses 3; refused limit; \
          pulled 2 2; pulled 1 1; pulled 0 0; returned",
     );
-    let returned = ("stands; counts", "made 3 uses 0; counts 3 6 0");
+    let returned = ("stands; counts", "made 3 uses 0; calls 3 resets 6 drops 0");
     plays(&rt, Kind::Lazy(3), &[Some(40)], &[kept, returned]);
 }
 
@@ -144,7 +144,7 @@ fn a_worker_with_great_room_keeps_so_many(rt: HostRuntime) {
 fn a_worker_with_no_room_keeps_none(rt: HostRuntime) {
     let returned = (
         "pull*3; return*3; visit; counts",
-        "pulled 0+ 0+; returned; visited 0 0; counts 32 4 0",
+        "pulled 0+ 0+; returned; visited 0 0; calls 32 resets 4 drops 0",
     );
     plays(&rt, Kind::Linear(1), &[Some(0)], &[returned]);
 }
@@ -154,8 +154,8 @@ fn a_worker_with_no_room_keeps_none(rt: HostRuntime) {
 fn a_worker_of_a_closed_pool_returns_what_it_keeps(rt: HostRuntime) {
     let closed = (
         "pull*3; return*3; close; stands; counts; pull; stands; counts",
-        "pulled 0+ 0+; returned; done; made 3 uses 2; counts 3 3 1; \
-         closed; made 3 uses 0; counts 3 3 3",
+        "pulled 0+ 0+; returned; done; made 3 uses 2; calls 3 resets 3 drops 1; \
+         refused closed; made 3 uses 0; calls 3 resets 3 drops 3",
     );
     plays(&rt, Kind::Lazy(3), &[Some(2)], &[closed]);
 }
@@ -165,14 +165,14 @@ fn a_worker_of_a_closed_pool_returns_what_it_keeps(rt: HostRuntime) {
 fn a_worker_of_a_closed_pool_returns_all(rt: HostRuntime) {
     let returned = (
         "pull*6; return*5; close; stands; counts; return; stands; counts",
-        "pulled 0+ 0+; returned; done; made 6 uses 5; counts 6 5 1; \
-         returned; made 6 uses 0; counts 6 6 6",
+        "pulled 0+ 0+; returned; done; made 6 uses 5; calls 6 resets 5 drops 1; \
+         returned; made 6 uses 0; calls 6 resets 6 drops 6",
     );
     plays(&rt, Kind::Lazy(6), &[Some(4)], &[returned]);
     let pulled = (
         "pull*6; return*6; close; stands; pull; stands; counts",
         "pulled 0+ 0+; returned; done; made 6 uses 6; \
-         closed; made 6 uses 0; counts 6 6 6",
+         refused closed; made 6 uses 0; calls 6 resets 6 drops 6",
     );
     plays(&rt, Kind::Lazy(6), &[Some(6)], &[pulled]);
 }
@@ -182,9 +182,9 @@ fn a_worker_of_a_closed_pool_returns_all(rt: HostRuntime) {
 fn a_worker_of_a_closed_pool_keeps_nothing_that_comes_back(rt: HostRuntime) {
     let closed = (
         "pull; close; stands; counts; return; stands; counts; pull; counts",
-        "pulled 0 0; done; made 1 uses 1; counts 1 0 0; \
-         returned; made 1 uses 0; counts 1 1 1; \
-         closed; counts 1 1 1",
+        "pulled 0 0; done; made 1 uses 1; calls 1 resets 0 drops 0; \
+         returned; made 1 uses 0; calls 1 resets 1 drops 1; \
+         refused closed; calls 1 resets 1 drops 1",
     );
     plays(&rt, Kind::Lazy(2), &ONE, &[closed]);
 }
@@ -218,7 +218,7 @@ fn a_worker_whose_page_is_full_begins_on_the_next_page(rt: HostRuntime) {
 fn a_refused_worker_asks_once(rt: HostRuntime) {
     let refused = (
         "refuse; pull; counts; stands; allow; pull",
-        "done; refused init; counts 1 0 0; made 0 uses 0; done; pulled 0 0",
+        "done; refused init; calls 1 resets 0 drops 0; made 0 uses 0; done; pulled 0 0",
     );
     plays(&rt, Kind::Lazy(1), &ONE, &[refused]);
 }

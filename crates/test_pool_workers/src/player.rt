@@ -9,16 +9,13 @@
 //!   `stands` says how many items there were at most and are in use, if the pool counts them.
 //! - `close` closes the pool. `refuse`, `allow`, `reject` and `accept` say what closures do then.
 use crate::plays::Hired;
-use crate::pools::Shared;
+use crate::pools::{Seen, Shared};
 use pool_model::book::Book;
-use pool_model::model::Item;
 use pool_model::value::Value;
 use pool_parts::PullError;
-use pool_parts::reusable::Reusable;
 use pool_workers::{Worker, WorkerPlace, WorkerReusable};
 use rows::row::{Command, Difference, Row};
 use rows::said::Said;
-use rows::setting::{refused, said_of_two};
 use std::alloc::{AllocError, Global};
 use std::sync::Arc;
 
@@ -29,6 +26,17 @@ pub struct WorkerPlayer<'w, P: WorkerPlace<Value>, S> {
     pub book: &'w Arc<Book>,
     workers: &'w [Hired<P>],
     held: Vec<WorkerReusable<'w, Value, P>>,
+}
+
+/// Says what was seen, or why nothing was.
+fn said_of(words: &'static str, seen: Result<Seen, PullError>) -> Said {
+    match seen {
+        Ok((number, serial)) => Said::of(words).and(number).and(serial),
+        Err(PullError::Memory) => Said::of("refused memory"),
+        Err(PullError::Init) => Said::of("refused init"),
+        Err(PullError::Limit) => Said::of("refused limit"),
+        Err(PullError::Closed) => Said::of("refused closed"),
+    }
 }
 
 impl<'w, P: WorkerPlace<Value>, S: Shared<P, P::Item>> WorkerPlayer<'w, P, S> {
@@ -71,55 +79,42 @@ impl<'w, P: WorkerPlace<Value>, S: Shared<P, P::Item>> WorkerPlayer<'w, P, S> {
     /// Does a command.
     pub fn play(&mut self, command: Command) -> Said {
         let [index, _, _] = command.numbers;
-        let workers: &'w [Hired<P>] = self.workers;
-        match (command.word, workers.get(index)) {
-            ("pull", Some(hired)) => match hired.worker.pull() {
-                Ok(item) => self.hold(item),
-                Err(cause) => refused(cause),
-            },
-            ("turn", Some(hired)) => {
-                let said = said_of_two("turned", Self::turned(&hired.worker));
-                said.and(self.book.counts().resets)
-            }
-            ("return", _) => self.give(index),
-            ("visit", _) => said_of_two("visited", self.visited()),
-            ("stands", _) => match self.pool.counted() {
-                Some((made, used)) => Said::of("made uses").and(made).and(used),
-                None => Said::of("counts nothing"),
-            },
-            ("close", _) => {
-                self.pool.close();
-                Said::of("done")
-            }
-            _ => self.book.play(command),
+        match command.word {
+            "pull" => self.pull(index),
+            "return" => self.give(index),
+            "turn" => self.turn(index),
+            "visit" => said_of("visited", self.pool.visit()),
+            "counts" | "stands" => self.asked(command.word),
+            word => self.done(word),
         }
     }
 
     /// What is seen of an item.
-    fn seen_of(item: &WorkerReusable<'w, Value, P>) -> Item {
+    fn seen_of(item: &WorkerReusable<'w, Value, P>) -> Seen {
         (S::number_of(item.item()), item.serial)
     }
 
     /// Pulls an item and drops it.
-    fn turned(worker: &'w Worker<Value, P>) -> Result<Item, PullError> {
+    fn turned(worker: &'w Worker<Value, P>) -> Result<Seen, PullError> {
         let item = worker.pull()?;
         Ok(Self::seen_of(&item))
     }
 
-    /// Another user pulls an item and returns it.
-    fn visited(&self) -> Result<Item, PullError> {
-        let item = self.pool.place().pull()?;
-        let seen = (S::number_of(&item), item.value().serial);
-        if let Ok(left) = item.try_reset() {
-            left.give_kept();
+    fn pull(&mut self, index: usize) -> Said {
+        let workers: &'w [Hired<P>] = self.workers;
+        let Some(hired) = workers.get(index) else {
+            return Said::of("no such worker");
+        };
+        match hired.worker.pull() {
+            Ok(item) => self.hold(item),
+            Err(cause) => said_of("pulled", Err(cause)),
         }
-        Ok(seen)
     }
 
     fn hold(&mut self, item: WorkerReusable<'w, Value, P>) -> Said {
-        let seen = Self::seen_of(&item);
+        let said = said_of("pulled", Ok(Self::seen_of(&item)));
         match self.held.push(item) {
-            Ok(()) => said_of_two("pulled", Ok(seen)),
+            Ok(()) => said,
             Err(_) => Said::of("no room"),
         }
     }
@@ -130,5 +125,42 @@ impl<'w, P: WorkerPlace<Value>, S: Shared<P, P::Item>> WorkerPlayer<'w, P, S> {
         }
         drop(self.held.remove(index));
         Said::of("returned")
+    }
+
+    fn turn(&self, index: usize) -> Said {
+        let workers: &'w [Hired<P>] = self.workers;
+        match workers.get(index) {
+            Some(hired) => {
+                let said = said_of("turned", Self::turned(&hired.worker));
+                said.and(self.book.counts().resets)
+            }
+            None => Said::of("no such worker"),
+        }
+    }
+
+    fn asked(&self, word: &'static str) -> Said {
+        if word == "stands" {
+            return match self.pool.counted() {
+                Some((made, used)) => Said::of("made uses").and(made).and(used),
+                None => Said::of("counts nothing"),
+            };
+        }
+        let counts = self.book.counts();
+        Said::of("calls resets drops")
+            .and(counts.calls)
+            .and(counts.resets)
+            .and(counts.drops)
+    }
+
+    fn done(&self, word: &'static str) -> Said {
+        match word {
+            "close" => self.pool.close(),
+            "refuse" => self.book.refuse(true),
+            "allow" => self.book.refuse(false),
+            "reject" => self.book.reject(true),
+            "accept" => self.book.reject(false),
+            _ => return Said::of("no such command"),
+        }
+        Said::of("done")
     }
 }

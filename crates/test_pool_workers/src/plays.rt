@@ -1,13 +1,11 @@
 //! How rows are played: on a new pool of a kind, whose end is looked at.
 use crate::assert_equal::assert_equal;
-use crate::games::{Setting, Wrong, wrong_at};
 use crate::player::WorkerPlayer;
 use crate::pools::{Shared, fixed_of, lazy_of, linear_of};
 use pool_model::book::{Book, new_book};
 use pool_model::value::Value;
 use pool_parts::PullError;
 use pool_workers::{Worker, WorkerPlace};
-use rows::row::Command;
 use std::alloc::Global;
 use std::process::Abort;
 use std::sync::Arc;
@@ -57,19 +55,23 @@ pub fn workers_of<P: WorkerPlace<Value>, S: Shared<P, P::Item>>(
 ) -> Result<Vec<Hired<P>>, PullError> {
     let mut workers = Vec::with_capacity(alloc, rooms.len())?;
     for room in rooms {
-        let place = pool.place();
-        let page = S::page_of(&place);
-        let worker = match *room {
-            Some(most) => Worker::with_room(alloc, place, most)?,
-            None => Worker::new(place),
-        };
-        workers.push(Hired {
-            room: *room,
-            page,
-            worker,
-        })?;
+        let (place, page) = pool.place();
+        workers.push(hire(alloc, place, page, *room)?)?;
     }
     Ok(workers)
+}
+
+fn hire<P: WorkerPlace<Value>>(
+    alloc: Global,
+    place: P,
+    page: usize,
+    room: Room,
+) -> Result<Hired<P>, PullError> {
+    let worker = match room {
+        Some(most) => Worker::with_room(alloc, place, most)?,
+        None => Worker::new(place),
+    };
+    Ok(Hired { room, page, worker })
 }
 
 /// How many items one worker gets at once. They come back.
@@ -90,7 +92,7 @@ fn gets<P: WorkerPlace<Value>>(
 
 /// Looks at a pool whose workers ended: no item is in use, and all come to one worker, unless the
 /// pool was closed.
-fn is_left<P: WorkerPlace<Value>, S: Shared<P, P::Item>>(
+pub fn is_left<P: WorkerPlace<Value>, S: Shared<P, P::Item>>(
     rt: &(impl Abort + AllocGlobal),
     pool: S,
     book: &Book,
@@ -100,7 +102,7 @@ fn is_left<P: WorkerPlace<Value>, S: Shared<P, P::Item>>(
     assert_equal(rt, used.unwrap_or(0), 0);
     book.refuse(false);
     book.reject(false);
-    let place = pool.place();
+    let (place, _) = pool.place();
     let come = if place.is_closed() { 0 } else { items };
     assert_equal(rt, gets(rt.alloc(), &Worker::new(place), items), Some(come));
 }
@@ -123,59 +125,41 @@ fn plays_lines<P: WorkerPlace<Value>, S: Shared<P, P::Item>>(
     assert_equal(rt, book.counts().resets, resets);
 }
 
-/// Plays rows on a pool, each with workers of its own, and then a game.
+/// Plays rows on a pool, each with workers of its own.
 fn plays_at<P: WorkerPlace<Value>, S: Shared<P, P::Item>>(
     rt: &(impl Abort + AllocGlobal),
-    setting: Setting<'_>,
     pool: S,
     book: &Arc<Book>,
-    list: &mut Vec<Command>,
-) -> Option<Wrong> {
-    for lines in setting.rows {
-        plays_lines(rt, pool, book, setting.rooms, *lines);
+    (kind, rooms): (Kind, &[Room]),
+    rows: &[Lines],
+) {
+    for lines in rows {
+        plays_lines(rt, pool, book, rooms, *lines);
     }
-    let wrong = wrong_at(rt, setting, pool, book, list);
-    if wrong.is_none() {
-        is_left(rt, pool, book, setting.kind.items());
-    }
-    wrong
-}
-
-/// Plays on a new pool, and ends the pool. Returns what was wrong in the game.
-pub fn played(
-    rt: &(impl Abort + AllocGlobal),
-    setting: Setting<'_>,
-    list: &mut Vec<Command>,
-) -> Option<Wrong> {
-    let book = new_book(rt.alloc()).expect(rt, "memory is left");
-    let wrong = match setting.kind {
-        Kind::Fixed(items) => {
-            let pool = fixed_of(rt.alloc(), &book, items.max(1)).expect(rt, "a pool is made");
-            plays_at(rt, setting, &pool, &book, list)
-        }
-        Kind::Lazy(items) => {
-            let pool = lazy_of(rt.alloc(), &book, items.max(1)).expect(rt, "a pool is made");
-            plays_at(rt, setting, &pool, &book, list)
-        }
-        Kind::Linear(pages) => {
-            let pool = linear_of(rt.alloc(), &book, pages.max(1)).expect(rt, "a pool is made");
-            plays_at(rt, setting, &pool, &book, list)
-        }
-    };
-    let (counts, owners) = (book.counts(), Arc::strong_count(&book));
-    let is_over = (counts.drops, owners) == (counts.made, 1);
-    assert_equal(rt, is_over || wrong.is_some(), true);
-    wrong
+    is_left(rt, pool, book, kind.items());
 }
 
 /// Plays rows on a new pool, each with workers of its own, and ends the pool.
 pub fn plays(rt: &(impl Abort + AllocGlobal), kind: Kind, rooms: &[Room], rows: &[Lines]) {
-    let setting = Setting {
-        kind,
-        rooms,
-        rows,
-        seed: 0,
-        steps: 0,
-    };
-    played(rt, setting, &mut Vec::new(rt.alloc()));
+    let book = new_book(rt.alloc()).expect(rt, "memory is left");
+    match kind {
+        Kind::Fixed(items) => {
+            let pool = fixed_of(rt.alloc(), &book, items.max(1)).expect(rt, "a pool is made");
+            plays_at(rt, &pool, &book, (kind, rooms), rows);
+        }
+        Kind::Lazy(items) => {
+            let pool = lazy_of(rt.alloc(), &book, items.max(1)).expect(rt, "a pool is made");
+            plays_at(rt, &pool, &book, (kind, rooms), rows);
+        }
+        Kind::Linear(pages) => {
+            let pool = linear_of(rt.alloc(), &book, pages.max(1)).expect(rt, "a pool is made");
+            plays_at(rt, &pool, &book, (kind, rooms), rows);
+        }
+    }
+    let counts = book.counts();
+    assert_equal(
+        rt,
+        (counts.drops, Arc::strong_count(&book)),
+        (counts.made, 1),
+    );
 }

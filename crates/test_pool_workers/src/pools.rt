@@ -39,59 +39,76 @@ pub fn linear_of(alloc: Global, book: &Arc<Book>, pages: usize) -> Result<Linear
     LinearObjectPool::with_limit(alloc, Closures::new(book)?, Closures::new(book)?, pages)
 }
 
-/// A pool that workers and others use. `P` is where a worker pulls, and `Item` what the pool gives
-/// there.
-pub trait Shared<P, Item>: Copy {
-    /// Returns a place for a worker.
-    fn place(self) -> P;
+/// The number of an item in its pool, and how many values were made before its value.
+pub type Seen = (usize, usize);
 
-    /// Returns the page at which a place's next pull begins.
-    fn page_of(place: &P) -> usize;
+/// A pool that workers and others use. `P` is where a worker pulls, and `Item` what
+/// the pool gives there.
+pub trait Shared<P, Item>: Copy {
+    /// Returns a place for a worker, and the page at which its pulls begin.
+    fn place(self) -> (P, usize);
 
     /// Returns the number of an item in its pool.
     fn number_of(item: &Item) -> usize;
 
+    /// Another user pulls an item and returns it.
+    ///
+    /// # Errors
+    ///
+    /// As of the pool's own pull.
+    fn visit(self) -> Result<Seen, PullError>;
+
     /// Returns how many items there were at once at most, and how many are in use, if the pool
     /// counts them.
-    fn counted(self) -> Option<(usize, usize)> {
-        None
-    }
+    fn counted(self) -> Option<(usize, usize)>;
 
     /// Closes the pool, if it can be closed.
-    fn close(self) {}
+    fn close(self);
 }
 
 impl<'p> Shared<
     FixedNear<'p, Value, Closures, Closures>,
     FixedReusable<'p, Value, Closures, Closures>,
 > for &'p Fixed {
-    fn place(self) -> FixedNear<'p, Value, Closures, Closures> {
-        self.near()
-    }
-
-    fn page_of(place: &FixedNear<'p, Value, Closures, Closures>) -> usize {
-        place.page_number()
+    fn place(self) -> (FixedNear<'p, Value, Closures, Closures>, usize) {
+        let place = self.near();
+        let page = place.page_number();
+        (place, page)
     }
 
     fn number_of(item: &FixedReusable<'p, Value, Closures, Closures>) -> usize {
         item.number()
     }
+
+    fn visit(self) -> Result<Seen, PullError> {
+        let item = self.pull()?;
+        Ok((item.number(), item.serial))
+    }
+
+    fn counted(self) -> Option<(usize, usize)> {
+        None
+    }
+
+    fn close(self) {}
 }
 
 impl<'p> Shared<
     LazyNear<'p, Value, Closures, Closures>,
     LazyReusable<'p, Value, Closures, Closures>,
 > for &'p Lazy {
-    fn place(self) -> LazyNear<'p, Value, Closures, Closures> {
-        self.near()
-    }
-
-    fn page_of(place: &LazyNear<'p, Value, Closures, Closures>) -> usize {
-        place.page_number()
+    fn place(self) -> (LazyNear<'p, Value, Closures, Closures>, usize) {
+        let place = self.near();
+        let page = place.page_number();
+        (place, page)
     }
 
     fn number_of(item: &LazyReusable<'p, Value, Closures, Closures>) -> usize {
         item.number()
+    }
+
+    fn visit(self) -> Result<Seen, PullError> {
+        let item = self.pull()?;
+        Ok((item.number(), item.serial))
     }
 
     fn counted(self) -> Option<(usize, usize)> {
@@ -103,18 +120,28 @@ impl<'p> Shared<
     }
 }
 
-impl<'p> Shared<&'p Linear, LinearReusable<'p, Value, Closures, Closures>> for &'p Linear {
-    fn place(self) -> &'p Linear {
-        self
-    }
+/// The number of an item, by its page's and that in the page.
+fn number_of(page: usize, id: u8) -> usize {
+    page.wrapping_mul(32).wrapping_add(id as usize)
+}
 
-    fn page_of(_place: &&'p Linear) -> usize {
-        0
+impl<'p> Shared<&'p Linear, LinearReusable<'p, Value, Closures, Closures>> for &'p Linear {
+    fn place(self) -> (&'p Linear, usize) {
+        (self, 0)
     }
 
     fn number_of(item: &LinearReusable<'p, Value, Closures, Closures>) -> usize {
-        item.page_number()
-            .wrapping_mul(32)
-            .wrapping_add(item.page_id() as usize)
+        number_of(item.page_number(), item.page_id())
     }
+
+    fn visit(self) -> Result<Seen, PullError> {
+        let item = self.pull()?;
+        Ok((number_of(item.page_number(), item.page_id()), item.serial))
+    }
+
+    fn counted(self) -> Option<(usize, usize)> {
+        None
+    }
+
+    fn close(self) {}
 }
