@@ -1,84 +1,64 @@
 //! Games: random commands to a chain of pages and to its model, which have to answer the same.
 use crate::assert_equal::assert_equal;
 use crate::model::Model;
-use crate::player::{Of, Owned, PagePlayer, Pages};
+use crate::player::{Maker, Owned, PagePlayer, Pages};
 use page_chain::linear_page::Chain;
 use pool_parts::PullError;
 use pool_parts::clean::AnyValue;
 use pool_parts::page::Page;
-use rows::asked_again;
 use rows::dice::Dice;
-use rows::game::{Game, Trial, failing_list, replayed};
-use rows::held::Left;
-use rows::refusals::{Again, Refusals};
-use rows::row::{Command, Difference, Player, Row};
+use rows::game::{Game, Trial, Unfair, played, replayed, shrunk};
+use rows::row::{Command, Player, first_difference};
 use rows::said::Said;
-use rows::setting::Setting;
-use std::alloc::Global;
+use std::alloc::{AllocError, Global};
 use std::process::Abort;
 use std::sync::Arc;
+use std::sync::atomic::AtomicUsize;
 use test_values::counted::NEVER;
 use test_values::tallied::Tallied;
+use test_values::tally::new_tally;
 
-fn opened(alloc: Global, setting: &Setting) -> Result<Pages, PullError> {
-    Chain::new(alloc, &|| setting.make())
+/// Creates what makes values, and refuses one call, counted from 0.
+fn maker(alloc: Global, refused: usize) -> Result<Maker, PullError> {
+    Ok(Maker {
+        tally: new_tally(alloc)?,
+        refused: AtomicUsize::new(refused),
+    })
+}
+
+fn opened(alloc: Global, maker: &Maker) -> Result<Pages, PullError> {
+    Chain::new(alloc, &|| maker.make())
 }
 
 /// A chain ended but for the owned slots of its pages, which drop their values.
-fn ends(rt: &impl Abort, setting: &Setting, left: Left<Of<Owned>>) {
-    let Left { owned, forgotten } = left;
-    assert_equal(rt, setting.tally.living() >= owned.len(), true);
+fn ends(rt: &impl Abort, maker: &Maker, owned: Vec<Owned>) {
+    assert_equal(rt, maker.tally.living() >= owned.len(), true);
     drop(owned);
-    let left = (setting.tally.living(), Arc::strong_count(&setting.tally));
-    assert_equal(rt, left, (forgotten, forgotten.wrapping_add(1)));
+    let left = (maker.tally.living(), Arc::strong_count(&maker.tally));
+    assert_equal(rt, left, (0, 1));
 }
 
-/// Plays a row, as `first_difference` does by one whose type names one lifetime.
-fn difference<P: Player>(player: &mut P, mut row: Row) -> Option<Difference> {
-    for _ in 0..u64::MAX {
-        let Some(command) = row.next_command() else {
-            break;
-        };
-        let said = player.play(command);
-        row.hear(said);
-    }
-    row.difference()
-}
-
-/// Plays a row with a new chain, which ends then. Returns what made its values, the owned slots
-/// that are left of it, and what was met of refused memory.
+/// Plays a row with a new chain, which ends then. Returns what made its values, and the owned slots
+/// that are left of it.
 pub fn left_by(
     rt: &(impl Abort + AllocGlobal),
     commands: &'static str,
     answers: &'static str,
-) -> (Arc<Setting>, Left<Of<Owned>>, Refusals) {
-    let refusals = Refusals::new();
-    let setting = asked_again!(rt, refusals, Setting::new(rt.alloc(), NEVER));
-    let chain = asked_again!(rt, refusals, opened(rt.alloc(), &setting));
-    let player = asked_again!(rt, refusals, PagePlayer::new(rt.alloc(), &chain, &setting));
-    let left = {
-        let refusals = &refusals;
-        let mut again = Again { player, refusals };
-        assert_equal(
-            rt,
-            difference(&mut again, Row::new(commands, answers)),
-            None,
-        );
-        again.player.held.left().expect(rt, "memory is left")
-    };
+) -> (Maker, Vec<Owned>) {
+    let maker = maker(rt.alloc(), NEVER).expect(rt, "memory is left");
+    let chain = opened(rt.alloc(), &maker).expect(rt, "a chain is made");
+    let player = PagePlayer::new(rt.alloc(), &chain, &maker);
+    let mut player = player.expect(rt, "memory is left");
+    assert_equal(rt, first_difference(&mut player, commands, answers), None);
+    let owned = player.into_owned(rt.alloc()).expect(rt, "memory is left");
     drop(chain);
-    (setting, left, refusals)
+    (maker, owned)
 }
 
-/// Plays a row with a new chain, which ends then. Returns what was met of refused memory.
-pub fn plays(
-    rt: &(impl Abort + AllocGlobal),
-    commands: &'static str,
-    answers: &'static str,
-) -> Refusals {
-    let (setting, left, refusals) = left_by(rt, commands, answers);
-    ends(rt, &setting, left);
-    refusals
+/// Plays a row with a new chain, which ends then.
+pub fn plays(rt: &(impl Abort + AllocGlobal), commands: &'static str, answers: &'static str) {
+    let (maker, owned) = left_by(rt, commands, answers);
+    ends(rt, &maker, owned);
 }
 
 /// A chain and its model.
@@ -108,8 +88,14 @@ const OF_PAGES: [&str; 12] = [
 
 /// Commands with a held item.
 const OF_ITEMS: [&str; 8] = [
-    "give", "give", "give", "give", "again", "after", "write", "drop",
+    "free", "free", "free", "free", "again", "after", "write", "drop",
 ];
+
+/// Draws one of these words.
+fn word_of(dice: &mut Dice, words: &[&'static str]) -> &'static str {
+    let place = dice.below(words.len());
+    words.get(place).copied().unwrap_or("mask")
+}
 
 impl<'c> PageGame<'c> {
     fn into_player(self) -> PagePlayer<'c> {
@@ -125,7 +111,7 @@ impl<'c> Player for PageGame<'c> {
 
 impl<'c> Game for PageGame<'c> {
     fn draw(&mut self, dice: &mut Dice) -> Command {
-        let known = self.model.known;
+        let known = self.model.known();
         if dice.one_in(40) {
             return Command {
                 word: "refuse",
@@ -133,14 +119,10 @@ impl<'c> Game for PageGame<'c> {
             };
         }
         if dice.one_in(3) {
-            let word = dice.word_of(&OF_ITEMS);
+            let word = word_of(dice, &OF_ITEMS);
             return Command {
                 word,
-                numbers: [
-                    dice.below(self.model.items.held.len()),
-                    dice.below(1_000_000),
-                    0,
-                ],
+                numbers: [dice.below(self.model.held()), dice.below(1_000_000), 0],
             };
         }
         // mostly the last pages, which have free items
@@ -149,7 +131,7 @@ impl<'c> Game for PageGame<'c> {
         } else {
             known.saturating_sub(dice.below(3).saturating_add(1))
         };
-        let word = dice.word_of(&OF_PAGES);
+        let word = word_of(dice, &OF_PAGES);
         let is_enough = known >= self.most && (word == "grow" || word == "walk" || word == "owned");
         Command {
             word: if is_enough { "mask" } else { word },
@@ -182,25 +164,25 @@ struct PageTrial {
 }
 
 impl PageTrial {
-    fn game<'c>(&self, chain: &'c Pages, setting: &'c Setting) -> Result<PageGame<'c>, PullError> {
+    fn game<'c>(&self, chain: &'c Pages, maker: &'c Maker) -> Result<PageGame<'c>, AllocError> {
         Ok(PageGame {
-            player: PagePlayer::new(self.alloc, chain, setting)?,
+            player: PagePlayer::new(self.alloc, chain, maker)?,
             model: Model::new(self.alloc)?,
             most: self.most,
         })
     }
 
-    fn is_unfair(&self, list: &[Command]) -> Result<bool, PullError> {
-        let setting = Setting::new(self.alloc, NEVER)?;
-        let chain = opened(self.alloc, &setting)?;
-        let mut game = self.game(&chain, &setting)?;
-        Ok(replayed(&mut game, list).is_some())
+    fn difference(&self, list: &[Command]) -> Result<Option<Unfair>, PullError> {
+        let maker = maker(self.alloc, NEVER)?;
+        let chain = opened(self.alloc, &maker)?;
+        let mut game = self.game(&chain, &maker)?;
+        Ok(replayed(&mut game, list))
     }
 }
 
 impl Trial for PageTrial {
     fn fails(&self, list: &[Command]) -> bool {
-        matches!(self.is_unfair(list), Ok(true))
+        matches!(self.difference(list), Ok(Some(_)))
     }
 }
 
@@ -209,16 +191,22 @@ impl Trial for PageTrial {
 fn plays_a_game(rt: &(impl Abort + AllocGlobal), seed: u64, most: usize) {
     let alloc = rt.alloc();
     let trial = PageTrial { alloc, most };
-    let setting = Setting::new(alloc, NEVER).expect(rt, "memory is left");
-    let chain = opened(alloc, &setting).expect(rt, "a chain is made");
-    let mut game = trial.game(&chain, &setting).expect(rt, "memory is left");
+    let maker = maker(alloc, NEVER).expect(rt, "memory is left");
+    let chain = opened(alloc, &maker).expect(rt, "a chain is made");
+    let mut game = trial.game(&chain, &maker).expect(rt, "memory is left");
+    let mut list = Vec::new(alloc);
+    let mut dice = Dice::new(seed);
     let steps = most.saturating_mul(20).saturating_add(1_000);
-    let failing = failing_list(alloc, &mut game, (seed, steps), &trial);
-    let failing = failing.expect(rt, "memory is left");
-    assert!(*rt; failing.is_none(), "seed {seed}, {most} pages: {failing:?}");
-    let left = game.into_player().held.left().expect(rt, "memory is left");
+    let unfair = played(&mut game, &mut dice, steps, &mut list).expect(rt, "memory is left");
+    if unfair.is_some() {
+        let list = shrunk(alloc, list, &trial).expect(rt, "memory is left");
+        let found = trial.difference(&list).expect(rt, "memory is left");
+        panic!(*rt; "seed {seed}, {most} pages: {found:?} at the end of {list:?}");
+    }
+    let player = game.into_player();
+    let owned = player.into_owned(alloc).expect(rt, "memory is left");
     drop(chain);
-    ends(rt, &setting, left);
+    ends(rt, &maker, owned);
 }
 
 #[test]
@@ -232,13 +220,13 @@ fn a_chain_answers_as_its_model(rt: HostRuntime) {
 /// A chain or a page of which a call is refused, counted from 0, isn't made. What was made is
 /// dropped.
 fn is_not_made(rt: &(impl Abort + AllocGlobal), is_chain: bool, call: usize) {
-    let setting = Setting::new(rt.alloc(), call).expect(rt, "memory is left");
+    let maker = maker(rt.alloc(), call).expect(rt, "memory is left");
     let refusal = if is_chain {
-        opened(rt.alloc(), &setting).err()
+        opened(rt.alloc(), &maker).err()
     } else {
-        Page::<Tallied, AnyValue>::new(rt.alloc(), &|| setting.make()).err()
+        Page::<Tallied, AnyValue>::new(rt.alloc(), &|| maker.make()).err()
     };
-    let seen = (refusal, setting.tally.now());
+    let seen = (refusal, maker.tally.now());
     assert_equal(
         rt,
         seen,

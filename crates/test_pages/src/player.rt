@@ -10,69 +10,81 @@ use page_chain::linear_page::{Chain, LinearPage};
 use pool_parts::PullError;
 use pool_parts::clean::AnyValue;
 use pool_parts::page::{Allocated, OwnedSlot, Page, PageSlot, PullPass};
-use rows::held::{Held, Item, Pulled};
 use rows::row::{Command, Player};
 use rows::said::Said;
-use rows::setting::{Setting, refused};
-use std::alloc::Global;
+use std::alloc::{AllocError, Global};
+use std::mem;
+use std::sync::Arc;
+use std::sync::atomic::AtomicUsize;
+use std::sync::atomic::Ordering::SeqCst;
 use test_values::tallied::Tallied;
+use test_values::tally::Tally;
+
+/// What makes values, and counts them.
+#[derive(Drop)]
+pub struct Maker {
+    pub tally: Arc<Tally>,
+    /// The call that is refused, counted from 0.
+    pub refused: AtomicUsize,
+}
+
+impl Maker {
+    pub fn make(&self) -> Option<Tallied> {
+        Tallied::new_but(&self.tally, self.refused.load(SeqCst))
+    }
+}
 
 pub type Pages = Chain<Tallied, AnyValue>;
 
 type LinkedPage<'c> = LinearPage<'c, Tallied, AnyValue>;
 
-pub type Borrowed<'c> = PageSlot<'c, Tallied, AnyValue>;
+type Borrowed<'c> = PageSlot<'c, Tallied, AnyValue>;
 
 pub type Owned = OwnedSlot<Tallied, AnyValue>;
 
-/// An item's slot, and the number of its page.
+/// An item's slot, however it was pulled.
 #[derive(Drop)]
-pub struct Of<S> {
+enum Slot<'c> {
+    Borrowed(Borrowed<'c>),
+    Owned(Owned),
+}
+
+/// An item that is held, and the number of its page.
+#[derive(Drop)]
+struct Held<'c> {
     page: usize,
-    pub slot: S,
+    slot: Slot<'c>,
 }
 
-impl Item for Of<Borrowed<'_>> {
-    fn place(&self) -> (usize, usize) {
-        (self.page, self.slot.id() as usize)
+impl Held<'_> {
+    fn number(&self) -> usize {
+        let id = match &self.slot {
+            Slot::Borrowed(slot) => slot.id(),
+            Slot::Owned(slot) => slot.id(),
+        };
+        self.page.wrapping_mul(32).wrapping_add(id as usize)
     }
 
     fn value(&self) -> usize {
-        self.slot.number
+        match &self.slot {
+            Slot::Borrowed(slot) => slot.number,
+            Slot::Owned(slot) => slot.number,
+        }
     }
 
     fn write(&mut self, value: usize) {
-        self.slot.number = value;
-    }
-
-    fn give(self) {
-        drop(Page::free(self.slot));
-    }
-}
-
-impl Item for Of<Owned> {
-    fn place(&self) -> (usize, usize) {
-        (self.page, self.slot.id() as usize)
-    }
-
-    fn value(&self) -> usize {
-        self.slot.number
-    }
-
-    fn write(&mut self, value: usize) {
-        self.slot.number = value;
-    }
-
-    fn give(self) {
-        drop(self.slot.free());
+        match &mut self.slot {
+            Slot::Borrowed(slot) => slot.number = value,
+            Slot::Owned(slot) => slot.number = value,
+        }
     }
 }
 
 /// What a pull answers: an item's slot, that the page is full, or a refusal.
-type Answer<'c> = Result<Option<Borrowed<'c>>, PullError>;
+type Pulled<'c> = Result<Option<Borrowed<'c>>, PullError>;
 
 /// The answer of a page to a pull with evidence.
-fn tried<'c>(page: &'c Page<Tallied, AnyValue>) -> Answer<'c> {
+fn tried<'c>(page: &'c Page<Tallied, AnyValue>) -> Pulled<'c> {
     let pass = PullPass::new();
     match page.try_alloc(&pass)? {
         Allocated::Slot(slot) => Ok(Some(slot)),
@@ -81,7 +93,7 @@ fn tried<'c>(page: &'c Page<Tallied, AnyValue>) -> Answer<'c> {
 }
 
 /// Frees an item of a page, which is pulled again by the note of its return.
-fn tried_again<'c>(slot: Borrowed<'c>) -> Answer<'c> {
+fn tried_again<'c>(slot: Borrowed<'c>) -> Pulled<'c> {
     let page = slot.page();
     let note = Page::free(slot);
     let pass = PullPass::new();
@@ -92,7 +104,7 @@ fn tried_again<'c>(slot: Borrowed<'c>) -> Answer<'c> {
 }
 
 /// A pull by a note that was told what the holder of an item knows.
-fn tried_after<'c>(slot: &mut Borrowed<'c>) -> Answer<'c> {
+fn tried_after<'c>(slot: &mut Borrowed<'c>) -> Pulled<'c> {
     let page = slot.page();
     let mut note = page.note();
     page.tell(&mut note, slot.witness());
@@ -118,11 +130,11 @@ fn pair(page: &Page<Tallied, AnyValue>) -> Option<(usize, usize)> {
 }
 
 /// The page behind one, which is full for the time: a call makes it if there is none.
-fn grown<'c>(page: &LinkedPage<'c>, setting: &Setting) -> Result<LinkedPage<'c>, PullError> {
+fn grown<'c>(page: &LinkedPage<'c>, maker: &Maker) -> Result<LinkedPage<'c>, PullError> {
     let pass = PullPass::new();
     match page.page().try_alloc(&pass)? {
         Allocated::Full(seen) => {
-            let (next, _) = page.get_or_create_next(seen, &|| setting.make())?;
+            let (next, _) = page.get_or_create_next(seen, &|| maker.make())?;
             Ok(next)
         }
         Allocated::Slot(slot) => {
@@ -132,11 +144,16 @@ fn grown<'c>(page: &LinkedPage<'c>, setting: &Setting) -> Result<LinkedPage<'c>,
     }
 }
 
-/// What a walk from a page came to.
-fn walked<S: Drop>(page: usize, came: Result<(S, usize), PullError>) -> Result<Of<S>, PullError> {
-    let (slot, passed) = came?;
-    let page = page.wrapping_add(passed);
-    Ok(Of { page, slot })
+fn borrowed<'c>(
+    walked: Result<(Borrowed<'c>, usize), PullError>,
+) -> Result<(Slot<'c>, usize), PullError> {
+    let (slot, passed) = walked?;
+    Ok((Slot::Borrowed(slot), passed))
+}
+
+fn owned<'c>(walked: Result<(Owned, usize), PullError>) -> Result<(Slot<'c>, usize), PullError> {
+    let (slot, passed) = walked?;
+    Ok((Slot::Owned(slot), passed))
 }
 
 /// Returns so many, or 1 in place of 0.
@@ -146,13 +163,22 @@ fn at_least_one(count: usize) -> usize
     if count == 0 { 1 } else { count }
 }
 
+fn refused(cause: PullError) -> Said {
+    match cause {
+        PullError::Limit => Said::of("refused limit"),
+        PullError::Init => Said::of("refused init"),
+        PullError::Memory => Said::of("refused memory"),
+        PullError::Closed => Said::of("closed"),
+    }
+}
+
 /// A chain, the pages that are known of it, and what is held.
 #[derive(Drop)]
 pub struct PagePlayer<'c> {
     alloc: Global,
-    setting: &'c Setting,
+    maker: &'c Maker,
     pages: Vec<LinkedPage<'c>>,
-    pub held: Held<Of<Borrowed<'c>>, Of<Owned>>,
+    held: Vec<Held<'c>>,
 }
 
 impl<'c> PagePlayer<'c> {
@@ -160,24 +186,41 @@ impl<'c> PagePlayer<'c> {
     pub fn new(
         alloc: Global,
         chain: &'c Pages,
-        setting: &'c Setting,
-    ) -> Result<PagePlayer<'c>, PullError> {
-        let mut pages = Vec::with_capacity(alloc, 2)?;
-        let known = pages.push(chain.first());
-        known.map_err(|_| PullError::Memory)?;
+        maker: &'c Maker,
+    ) -> Result<PagePlayer<'c>, AllocError> {
+        let mut pages = Vec::new(alloc);
+        pages.push(chain.first())?;
         Ok(PagePlayer {
             alloc,
-            setting,
+            maker,
             pages,
-            held: Held::new(alloc, 64)?,
+            held: Vec::new(alloc),
         })
     }
 
+    /// Holds a slot of a page.
+    fn hold(&mut self, page: usize, slot: Slot<'c>) -> Said {
+        let held = Held { page, slot };
+        let said = Said::of("pulled").and(held.number()).and(held.value());
+        match self.held.push(held) {
+            Ok(()) => said,
+            Err(_) => Said::of("no room"),
+        }
+    }
+
     /// Holds what a page gave.
-    fn hold_of(&mut self, page: usize, pulled: Answer<'c>) -> Said {
+    fn hold_of(&mut self, page: usize, pulled: Pulled<'c>) -> Said {
         match pulled {
-            Ok(Some(slot)) => self.held.borrow(Ok(Of { page, slot })),
+            Ok(Some(slot)) => self.hold(page, Slot::Borrowed(slot)),
             Ok(None) => Said::of("full"),
+            Err(cause) => refused(cause),
+        }
+    }
+
+    /// Holds what a walk from a page came to.
+    fn hold_walked(&mut self, page: usize, walked: Result<(Slot<'c>, usize), PullError>) -> Said {
+        match walked {
+            Ok((slot, passed)) => self.hold(page.wrapping_add(passed), slot),
             Err(cause) => refused(cause),
         }
     }
@@ -201,7 +244,7 @@ impl<'c> PagePlayer<'c> {
                 return Said::of("no room");
             }
         }
-        let said = match grown(&page, self.setting) {
+        let said = match grown(&page, self.maker) {
             Ok(next) => self.know(next),
             Err(cause) => refused(cause),
         };
@@ -217,20 +260,27 @@ impl<'c> PagePlayer<'c> {
         let Some(page) = self.pages.get(number).copied() else {
             return Said::of("no such page");
         };
-        let setting = self.setting;
-        let make = || setting.make();
-        let most = at_least_one(within);
+        let maker = self.maker;
+        let make = || maker.make();
         match command.word {
             "take" => self.hold_of(number, page.page().alloc()),
             "try" => self.hold_of(number, tried(page.page())),
-            "walk" => self.held.borrow(walked(number, page.alloc(&make))),
-            "walk_within" => self
-                .held
-                .borrow(walked(number, page.alloc_within(most, &make))),
-            "owned" => self.held.own(walked(number, page.alloc_owned(&make))),
-            "owned_within" => self
-                .held
-                .own(walked(number, page.alloc_owned_within(most, &make))),
+            "walk" => {
+                let walked = borrowed(page.alloc(&make));
+                self.hold_walked(number, walked)
+            }
+            "walk_within" => {
+                let walked = borrowed(page.alloc_within(at_least_one(within), &make));
+                self.hold_walked(number, walked)
+            }
+            "owned" => {
+                let walked = owned(page.alloc_owned(&make));
+                self.hold_walked(number, walked)
+            }
+            "owned_within" => {
+                let walked = owned(page.alloc_owned_within(at_least_one(within), &make));
+                self.hold_walked(number, walked)
+            }
             "next" => match page.next() {
                 Some((next, _)) => self.know(next),
                 None => Said::of("none"),
@@ -246,38 +296,90 @@ impl<'c> PagePlayer<'c> {
         }
     }
 
-    /// Pulls by a note that was told what an item's holder knows.
-    fn after(&mut self, index: usize) -> Said {
-        match self.held.item(index) {
-            None => Said::of("not held"),
-            Some(Pulled::Owned(_)) => Said::of("not borrowed"),
-            Some(Pulled::Borrowed(item)) => {
-                let page = item.page;
-                let pulled = tried_after(&mut item.slot);
+    /// Does a command with a held item.
+    fn use_held(&mut self, command: Command) -> Said {
+        let [index, value, _] = command.numbers;
+        let Some(held) = self.held.get_mut(index) else {
+            return Said::of("not held");
+        };
+        if command.word == "write" {
+            held.write(value);
+            return Said::of("written");
+        }
+        let page = held.page;
+        match &mut held.slot {
+            Slot::Borrowed(slot) => {
+                let pulled = tried_after(slot);
                 self.hold_of(page, pulled)
+            }
+            Slot::Owned(_) => Said::of("not borrowed"),
+        }
+    }
+
+    /// Does a command by which a held item leaves.
+    fn leave(&mut self, command: Command) -> Said {
+        let [index, _, _] = command.numbers;
+        if self.held.len() <= index {
+            return Said::of("not held");
+        }
+        let Held { page, slot } = self.held.remove(index);
+        match (command.word, slot) {
+            ("free", Slot::Borrowed(slot)) => {
+                drop(Page::free(slot));
+                Said::of("freed")
+            }
+            ("free", Slot::Owned(slot)) => {
+                drop(slot.free());
+                Said::of("freed")
+            }
+            ("again", Slot::Borrowed(slot)) => self.hold_of(page, tried_again(slot)),
+            ("forget", slot) => {
+                mem::forget(slot);
+                Said::of("forgotten")
+            }
+            (_, slot) => {
+                drop(slot);
+                Said::of("dropped")
             }
         }
     }
 
-    /// Frees a held item, and pulls by the note of its return. One that owns its page is dropped.
-    fn again(&mut self, index: usize) -> Said {
-        match self.held.take(index) {
-            None => Said::of("not held"),
-            Some(Pulled::Borrowed(Of { page, slot })) => self.hold_of(page, tried_again(slot)),
-            Some(Pulled::Owned(_)) => Said::of("dropped"),
-        }
+    /// Sets the call that is refused.
+    fn refuse(&self, calls: usize) -> Said {
+        let call = self.maker.tally.calls().wrapping_add(calls);
+        self.maker.refused.store(call, SeqCst);
+        Said::of("set")
+    }
+
+    /// How many calls for a value there were, and how many values were dropped.
+    fn counts(&self) -> Said {
+        let (calls, drops) = self.maker.tally.now();
+        Said::of("calls drops").and(calls).and(drops)
     }
 }
 
 impl<'c> Player for PagePlayer<'c> {
     fn play(&mut self, command: Command) -> Said {
-        let [first, _, _] = command.numbers;
         match command.word {
-            "counts" | "refuse" | "living" => self.setting.play(command),
-            "after" => self.after(first),
-            "again" => self.again(first),
-            "write" | "give" | "drop" | "forget" => self.held.play(command),
+            "counts" => self.counts(),
+            "refuse" => self.refuse(command.numbers[0]),
+            "write" | "after" => self.use_held(command),
+            "free" | "again" | "drop" | "forget" => self.leave(command),
             _ => self.use_page(command),
         }
+    }
+}
+
+impl<'c> PagePlayer<'c> {
+    /// The owned slots that are held. The borrowed ones are dropped with their values.
+    pub fn into_owned(self, alloc: Global) -> Result<Vec<Owned>, AllocError> {
+        let mut owned = Vec::with_capacity(alloc, self.held.len())?;
+        for held in self.held {
+            let Held { page: _, slot } = held;
+            if let Slot::Owned(slot) = slot {
+                owned.push(slot)?;
+            }
+        }
+        Ok(owned)
     }
 }
