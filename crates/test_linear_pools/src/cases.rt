@@ -1,7 +1,6 @@
 //! Rows of commands to a linear pool. Its limit is in pages, 0 for none. Item `i` of a new page has
 //! the value of the call of `init` that made it.
-use crate::opened::{plays, plays_with};
-use rows::play::Play;
+use crate::opened::{plays, plays_often};
 
 #[test]
 fn a_written_five_comes_again_where_reset_keeps_it(rt: HostRuntime) {
@@ -15,20 +14,24 @@ fn a_written_five_comes_again_where_reset_keeps_it(rt: HostRuntime) {
 
 #[test]
 fn an_item_is_reset_to_zero_twice(rt: HostRuntime) {
-    let row = Play::Row(
+    plays_often(
+        &rt,
+        0,
+        2,
         "zero; pull; write 0 1; return 0",
         "set; pulled 0 0; written; returned",
     );
-    drop(plays_with(&rt, 0, 0, 2, row));
 }
 
 #[test]
 fn ten_pulls_in_turn_count_up_from_zero_in_the_first_item(rt: HostRuntime) {
-    let row = Play::Row(
+    plays_often(
+        &rt,
+        0,
+        10,
         "zero; pull; write 0 1; look 0; write 0 2; look 0; return 0",
-        "set; pulled 0 0; written; lies 0 0 1; written; lies 0 0 2; returned",
+        "set; pulled 0 0; written; lies 0 1; written; lies 0 2; returned",
     );
-    drop(plays_with(&rt, 0, 0, 10, row));
 }
 
 #[test]

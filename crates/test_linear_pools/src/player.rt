@@ -6,13 +6,12 @@
 use linear_pools::page::PullPass;
 use linear_pools::{LinearObjectPool, LinearOwnedReusable, LinearReusable, PullError};
 use pool_parts::reusable::Reusable;
-use rows::held::{Held, Item, Pulled};
 use rows::row::{Command, Player};
 use rows::said::Said;
-use rows::setting::{Makes, Resets, Setting, said_of_two};
-use std::alloc::Global;
+use rows::setting::{Makes, Resets, Setting, refused, said_of_two};
+use std::alloc::{AllocError, Global};
 use std::sync::Arc;
-use std::thread;
+use std::{mem, thread};
 use test_values::tallied::Tallied;
 
 pub type Pool = LinearObjectPool<Tallied, Makes, Resets>;
@@ -21,56 +20,69 @@ type Borrowed<'p> = LinearReusable<'p, Tallied, Makes, Resets>;
 
 pub type Owned = LinearOwnedReusable<Tallied, Makes, Resets>;
 
+/// An item, however it was pulled.
+#[derive(Drop)]
+enum Item<'p> {
+    Borrowed(Borrowed<'p>),
+    Owned(Owned),
+}
+
 /// The number of an item in its pool.
 fn number_of(page: usize, id: u8) -> usize {
     page.wrapping_mul(32).wrapping_add(id as usize)
 }
 
-/// An item that is held.
-#[derive(Drop)]
-pub struct Of<S> {
-    item: S,
-}
-
-/// Names what was pulled as an item.
-fn wrapped<S: Drop>(pulled: Result<S, PullError>) -> Result<Of<S>, PullError> {
-    Ok(Of { item: pulled? })
-}
-
-impl Item for Of<Borrowed<'_>> {
-    fn place(&self) -> (usize, usize) {
-        (self.item.page_number(), self.item.page_id() as usize)
+impl Item<'_> {
+    fn number(&self) -> usize {
+        match self {
+            Item::Borrowed(item) => number_of(item.page_number(), item.page_id()),
+            Item::Owned(item) => number_of(item.page_number(), item.page_id()),
+        }
     }
 
     fn value(&self) -> usize {
-        self.item.number
+        match self {
+            Item::Borrowed(item) => item.number,
+            Item::Owned(item) => item.number,
+        }
     }
 
     fn write(&mut self, value: usize) {
-        self.item.number = value;
+        match self {
+            Item::Borrowed(item) => item.number = value,
+            Item::Owned(item) => item.number = value,
+        }
     }
 
-    fn give(self) {
-        drop(self.item.give_back());
+    /// Tells a note of its page what its holder knows.
+    fn tell(&mut self) {
+        match self {
+            Item::Borrowed(item) => {
+                let (mut note, known) = (item.note(), item.witness());
+                item.tell(&mut note, known);
+            }
+            Item::Owned(item) => {
+                let (mut note, known) = (item.note(), item.witness());
+                item.tell(&mut note, known);
+            }
+        }
+    }
+
+    /// Returns it by a call, not by its drop.
+    fn give_back(self) {
+        match self {
+            Item::Borrowed(item) => drop(item.give_back()),
+            Item::Owned(item) => drop(item.give_back()),
+        }
     }
 }
 
-impl Item for Of<Owned> {
-    fn place(&self) -> (usize, usize) {
-        (self.item.page_number(), self.item.page_id() as usize)
-    }
+fn borrowed<'p>(pulled: Result<Borrowed<'p>, PullError>) -> Result<Item<'p>, PullError> {
+    Ok(Item::Borrowed(pulled?))
+}
 
-    fn value(&self) -> usize {
-        self.item.number
-    }
-
-    fn write(&mut self, value: usize) {
-        self.item.number = value;
-    }
-
-    fn give(self) {
-        drop(self.item.give_back());
-    }
+fn owned<'p>(pulled: Result<Owned, PullError>) -> Result<Item<'p>, PullError> {
+    Ok(Item::Owned(pulled?))
 }
 
 /// Pulls by a call that shows what it found in place of an item.
@@ -129,7 +141,9 @@ fn pair(pool: &Pool) -> Result<(usize, usize), PullError> {
 pub struct LinearPlayer<'p> {
     pool: &'p Arc<Pool>,
     setting: &'p Arc<Setting>,
-    pub held: Held<Of<Borrowed<'p>>, Of<Owned>>,
+    held: Vec<Item<'p>>,
+    /// How many items were forgotten, which stay out for good.
+    pub forgotten: usize,
     /// What this player alone writes by `often`.
     pub mark: usize,
 }
@@ -141,29 +155,71 @@ impl<'p> LinearPlayer<'p> {
         pool: &'p Arc<Pool>,
         setting: &'p Arc<Setting>,
         room: usize,
-    ) -> Result<LinearPlayer<'p>, PullError> {
+    ) -> Result<LinearPlayer<'p>, AllocError> {
         Ok(LinearPlayer {
             pool,
             setting,
-            held: Held::new(alloc, room)?,
+            held: Vec::with_capacity(alloc, room)?,
+            forgotten: 0,
             mark: 0,
         })
     }
 
-    /// Tells a note of a held item's page what its holder knows.
-    fn tell(&mut self, index: usize) -> Said {
-        match self.held.item(index) {
-            None => return Said::of("not held"),
-            Some(Pulled::Borrowed(Of { item })) => {
-                let (mut note, known) = (item.note(), item.witness());
-                item.tell(&mut note, known);
+    /// Holds what was pulled.
+    fn hold(&mut self, pulled: Result<Item<'p>, PullError>) -> Said {
+        match pulled {
+            Ok(item) => {
+                let said = Said::of("pulled").and(item.number()).and(item.value());
+                match self.held.push(item) {
+                    Ok(()) => said,
+                    Err(_) => Said::of("no room"),
+                }
             }
-            Some(Pulled::Owned(Of { item })) => {
-                let (mut note, known) = (item.note(), item.witness());
-                item.tell(&mut note, known);
+            Err(cause) => refused(cause),
+        }
+    }
+
+    /// Does a command for which an item is held.
+    fn use_held(&mut self, command: Command) -> Said {
+        let [index, number, _] = command.numbers;
+        let Some(item) = self.held.get_mut(index) else {
+            return Said::of("not held");
+        };
+        match command.word {
+            "look" => Said::of("lies").and(item.number()).and(item.value()),
+            "write" => {
+                item.write(number);
+                Said::of("written")
+            }
+            _ => {
+                item.tell();
+                Said::of("told")
             }
         }
-        Said::of("told")
+    }
+
+    /// Does a command by which a held item leaves.
+    fn leave(&mut self, command: Command) -> Said {
+        let [index, _, _] = command.numbers;
+        if self.held.len() <= index {
+            return Said::of("not held");
+        }
+        let item = self.held.remove(index);
+        match (command.word, item) {
+            ("give", item) => {
+                item.give_back();
+                Said::of("returned")
+            }
+            ("forget", Item::Borrowed(item)) => {
+                mem::forget(item);
+                self.forgotten = self.forgotten.wrapping_add(1);
+                Said::of("forgotten")
+            }
+            (_, item) => {
+                drop(item);
+                Said::of("returned")
+            }
+        }
     }
 
     /// Pulls, writes the mark and returns, so often. Says how often the item didn't have the value of
@@ -192,6 +248,17 @@ impl<'p> LinearPlayer<'p> {
             None => Said::of("no limit"),
         }
     }
+
+    /// The owned items that are held. The borrowed ones come back.
+    pub fn into_owned(self, alloc: Global) -> Result<Vec<Owned>, AllocError> {
+        let mut owned = Vec::with_capacity(alloc, self.held.len())?;
+        for item in self.held {
+            if let Item::Owned(item) = item {
+                owned.push(item)?;
+            }
+        }
+        Ok(owned)
+    }
 }
 
 impl<'p> Player for LinearPlayer<'p> {
@@ -199,17 +266,17 @@ impl<'p> Player for LinearPlayer<'p> {
         let [written, _, _] = command.numbers;
         let pool = self.pool;
         match command.word {
-            "pull" => self.held.borrow(wrapped(pool.pull())),
-            "try" => self.held.borrow(wrapped(tried(pool))),
-            "again" => self.held.borrow(wrapped(tried_again(pool))),
-            "owned" => self.held.own(wrapped(pool.pull_owned())),
+            "pull" => self.hold(borrowed(pool.pull())),
+            "try" => self.hold(borrowed(tried(pool))),
+            "again" => self.hold(borrowed(tried_again(pool))),
+            "owned" => self.hold(owned(pool.pull_owned())),
             "reset_first" => said_of_two("reset", reset_first(pool, written)),
             "pair" => said_of_two("two", pair(pool)),
             "often" => self.often(written),
             "limit" => self.limit(),
             "owners" => self.setting.owners(Arc::strong_count(pool)),
-            "tell" => self.tell(written),
-            "look" | "write" | "return" | "give" | "forget" => self.held.play(command),
+            "look" | "write" | "tell" => self.use_held(command),
+            "return" | "give" | "forget" => self.leave(command),
             _ => self.setting.play(command),
         }
     }

@@ -4,59 +4,70 @@
 //! Each test that prints does so when it has all that it needs. `ci/refuse_memory` refuses each
 //! request of these tests in turn, and fails where one comes after that line. Before it, a request
 //! that is refused ends the test.
-use crate::opened::{opened, plays_with};
+use crate::opened::opened;
 use crate::player::{LinearPlayer, Pool};
+use linear_pools::PullError;
 use linear_pools::page::{PageId, PullPass};
-use rows::play::Play;
-use rows::row::first_difference;
+use rows::row::{Command, Player, first_difference};
+use rows::said::Said;
 use rows::setting::Setting;
+use std::alloc::Global;
 use std::process::Abort;
 use std::sync::Arc;
+use test_values::again;
 use test_values::counted::NEVER;
-
-/// Plays a row with a new pool, and tells what it met of refused memory. What was refused is asked
-/// for again: it was dropped, so that no value is left of it.
-fn goes_on(
-    rt: &(impl Abort + AllocGlobal + Print),
-    limit: usize,
-    commands: &'static str,
-    answers: &'static str,
-) {
-    plays_with(rt, limit, 64, 1, Play::Row(commands, answers)).tell(rt);
-}
 
 /// Past a page of items that are held, a pull is met or refused for memory. Then the second page's
 /// first item is there. A pool that is opened by a second try has later values than the first.
+fn goes_on(rt: &(impl Abort + AllocGlobal), limit: usize, word: &'static str) {
+    let setting = again!(Setting::new(rt.alloc(), NEVER)).expect(rt, "memory is left");
+    let pool = again!(opened(rt.alloc(), &setting, limit)).expect(rt, "a pool is made");
+    let Ok(mut player) = LinearPlayer::new(rt.alloc(), &pool, &setting, 34) else {
+        return;
+    };
+    let pull = Command {
+        word,
+        numbers: [0; 3],
+    };
+    assert_eq!(*rt;
+        first_difference(&mut player, "pull*32", "pulled 0+ _"),
+        None
+    );
+    let said = player.play(pull);
+    if said == Said::of("refused memory") {
+        assert_eq!(*rt; setting.tally.living(), 32);
+        assert!(*rt; player.play(pull).is_as("pulled 32 _", 0));
+    } else {
+        assert!(*rt; said.is_as("pulled 32 _", 0));
+    }
+    assert_eq!(*rt; setting.tally.living(), 64);
+    let (commands, answers) = ("return 32; pull", "returned; pulled 32 _");
+    assert_eq!(*rt; first_difference(&mut player, commands, answers), None);
+}
+
+/// Holds with each request for memory refused in turn too.
 #[test]
 fn a_pool_goes_on_where_memory_was_refused(rt: HostRuntime) {
-    goes_on(
-        &rt,
-        0,
-        "living; pull*32; pull; living; write 32 5; return 32; pull; living",
-        "living 32; pulled 0+ _; pulled 32 _; living 64; written; returned; pulled 32 5; living 64",
-    );
+    goes_on(&rt, 0, "pull");
 }
 
+/// Holds with each request for memory refused in turn too.
 #[test]
 fn owned_pulls_go_on_where_memory_was_refused(rt: HostRuntime) {
-    goes_on(
-        &rt,
-        2,
-        "living; owned*32; owned; living; write 32 5; return 32; owned; owners",
-        "living 32; pulled 0+ _; pulled 32 _; living 64; written; returned; pulled 32 5; \
-         owners 34 65",
-    );
+    goes_on(&rt, 2, "owned");
 }
 
-/// Where no page may be linked beside those that there are, a refusal is for the limit. Before, it
-/// is for memory.
+/// Holds with each request for memory refused in turn too.
 #[test]
-fn a_bounded_pull_tells_want_of_memory_from_its_limit(rt: HostRuntime) {
-    goes_on(
-        &rt,
-        2,
-        "pull*32; pull; living; pull*31; pull; living",
-        "pulled 0+ _; pulled 32 _; living 64; pulled 33+ _; refused limit; living 64",
+fn what_a_linear_pool_owns_is_dropped_where_memory_was_refused(rt: HostRuntime) {
+    let Ok(setting) = Setting::new(rt.alloc(), NEVER) else {
+        return;
+    };
+    let refusal = opened(rt.alloc(), &setting, 2).err();
+    assert!(rt; matches!(refusal, None | Some(PullError::Memory)));
+    assert_eq!(rt;
+        (setting.tally.living(), Arc::strong_count(&setting)),
+        (0, 1)
     );
 }
 

@@ -4,12 +4,15 @@ use crate::opened::opened;
 use crate::player::{LinearPlayer, Pool};
 use rows::row::{Difference, first_difference};
 use rows::setting::Setting;
-use rows::threads::{Line, Table, play_beside};
+use rows::threads::{Table, joined, started};
 use std::alloc::Global;
 use std::process::Abort;
 use std::sync::Arc;
 use std::thread::Threads;
 use test_values::counted::NEVER;
+
+/// Commands and their answers.
+type Row = (&'static str, &'static str);
 
 /// A pool, and what each thread plays on it.
 #[derive(Drop)]
@@ -17,7 +20,7 @@ struct Shared {
     pool: Arc<Pool>,
     setting: Arc<Setting>,
     alloc: Global,
-    line: Line,
+    row: Row,
 }
 
 impl Table for Shared {
@@ -27,34 +30,37 @@ impl Table for Shared {
             return Some(Difference::BadRow("no memory"));
         };
         player.mark = index.wrapping_add(1);
-        let found = first_difference(&mut player, self.line.0, self.line.1);
+        let found = first_difference(&mut player, self.row.0, self.row.1);
         self.setting.come();
         found
     }
 }
 
-/// One who opens a pool with this limit plays the first line alone and the last one beside so many
-/// threads, which play the line between them.
-fn plays_beside<R: Abort + AllocGlobal + Threads>(
+/// One who opens a pool with this limit plays the first row alone and the last one beside so many
+/// threads, which play the row between them.
+fn play_beside<R: Abort + AllocGlobal + Threads>(
     rt: &R,
     limit: usize,
     threads: usize,
-    [first, line, last]: [Line; 3],
+    rows: [Row; 3],
 ) {
     let alloc = rt.alloc();
+    let [first, row, last] = rows;
     let setting = Setting::new(alloc, NEVER).expect(rt, "memory is left");
     let pool = opened(alloc, &setting, limit).expect(rt, "a pool is made");
     let shared = Shared {
-        pool,
-        setting,
+        pool: Arc::try_clone(&pool).expect(rt, "memory is left"),
+        setting: Arc::try_clone(&setting).expect(rt, "memory is left"),
         alloc,
-        line,
+        row,
     };
     let shared = Arc::new(alloc, shared).expect(rt, "memory is left");
-    let player = LinearPlayer::new(alloc, &shared.pool, &shared.setting, 0);
+    let player = LinearPlayer::new(alloc, &pool, &setting, 0);
     let mut player = player.expect(rt, "memory is left");
-    let found = play_beside(rt, alloc, &mut player, (&shared, threads), [first, last]);
-    assert_eq!(*rt; found, Ok(None));
+    assert_eq!(*rt; first_difference(&mut player, first.0, first.1), None);
+    let others = started(rt, alloc, &shared, threads).expect(rt, "each thread is started");
+    assert_eq!(*rt; first_difference(&mut player, last.0, last.1), None);
+    assert_eq!(*rt; joined(rt, others), None);
 }
 
 #[test]
@@ -67,7 +73,7 @@ fn five_threads_hold_the_first_five_items(rt: HostRuntime) {
             "met; pulled 5 5; calls 32 resets 0 drops 0; met",
         ),
     ];
-    plays_beside(&rt, 0, 5, rows);
+    play_beside(&rt, 0, 5, rows);
 }
 
 #[test]
@@ -77,7 +83,7 @@ fn eight_threads_see_reset_values(rt: HostRuntime) {
         ("often 10000", "wrong 0"),
         ("until 8", "met"),
     ];
-    plays_beside(&rt, 2, 8, rows);
+    play_beside(&rt, 2, 8, rows);
 }
 
 /// Eight items of ten full pages came back. Behind these is a page of free items, for who finds none
@@ -92,9 +98,9 @@ fn eight_threads_share_what_ten_full_pages_got_back(rt: HostRuntime) {
              returned; returned; returned; returned",
         ),
         ("often 10000", "wrong 0"),
-        ("until 8; look 0+*312", "met; lies _ _ 0"),
+        ("until 8; look 0+*312", "met; lies _ 0"),
     ];
-    plays_beside(&rt, 0, 8, rows);
+    play_beside(&rt, 0, 8, rows);
 }
 
 /// They ask for 40 items, and get 32.
@@ -111,7 +117,7 @@ fn five_threads_share_one_page(rt: HostRuntime) {
             "met; refused limit; calls 32 resets 0 drops 0; met",
         ),
     ];
-    plays_beside(&rt, 1, 5, rows);
+    play_beside(&rt, 1, 5, rows);
 }
 
 /// The pages that hold their items are linked by all of them at one time. Who comes late takes an
@@ -124,7 +130,7 @@ fn four_threads_make_a_pool_grow_at_one_time(rt: HostRuntime) {
             ("meet 4; pull*40", "met; pulled _ _"),
             ("until 8", "met"),
         ];
-        plays_beside(&rt, 0, 4, rows);
+        play_beside(&rt, 0, 4, rows);
     }
 }
 
@@ -145,5 +151,5 @@ fn a_page_that_comes_too_late_is_dropped_and_leaves_a_hint(rt: HostRuntime) {
              calls 160 resets 0 drops 32; met",
         ),
     ];
-    plays_beside(&rt, 4, 1, rows);
+    play_beside(&rt, 4, 1, rows);
 }

@@ -1,5 +1,5 @@
-//! Tests of refused memory: of pages, of the cores, their players and buffers, the world and the
-//! engine.
+//! Tests of refused memory: of pages and linear pools, of the cores, their players and buffers, the
+//! world and the engine.
 //!
 //! Each test holds where any one of its requests for memory is refused, and where none is. It
 //! prints which of the two it met, which `ci/refuse_memory` compares with what it refused.
@@ -11,6 +11,8 @@ mod assert_equal;
 mod buffers;
 #[cfg(test)]
 mod engine;
+#[cfg(test)]
+mod linear_pool;
 #[cfg(test)]
 mod pages;
 #[cfg(test)]
