@@ -4,9 +4,6 @@
 
 pub mod dice;
 pub mod game;
-pub mod held;
-pub mod items;
-pub mod play;
 pub mod refusals;
 pub mod row;
 pub mod said;

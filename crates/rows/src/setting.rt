@@ -56,7 +56,6 @@ impl Setting {
         let [number, _, _] = command.numbers;
         match command.word {
             "counts" => self.counts(),
-            "living" => Said::of("living").and(self.tally.living()),
             "refuse" => set(&self.refused, self.tally.calls().wrapping_add(number)),
             "late" => set(&self.late, number),
             "zero" => set(&self.zeroes, 1),
@@ -69,16 +68,6 @@ impl Setting {
             "until" => said_of_wait(wait_for(&self.came, number)),
             _ => Said::of("no such command"),
         }
-    }
-
-    /// Makes a value of the tally.
-    pub fn make(&self) -> Option<Tallied> {
-        let value = Tallied::new_but(&self.tally, self.refused.load(SeqCst))?;
-        if value.number == self.late.load(SeqCst) {
-            self.begun.store(1, SeqCst);
-            wait_for(&self.gone, 1);
-        }
-        Some(value)
     }
 
     /// Counts one more who came to where threads meet.
@@ -140,7 +129,13 @@ impl Init<Tallied, AnyValue> for Makes {
     ghost answers = { λ _ _. ⊤ };
 
     fn make(&self) -> Option<Tallied> {
-        self.setting.make()
+        let setting = &self.setting;
+        let value = Tallied::new_but(&setting.tally, setting.refused.load(SeqCst))?;
+        if value.number == setting.late.load(SeqCst) {
+            setting.begun.store(1, SeqCst);
+            wait_for(&setting.gone, 1);
+        }
+        Some(value)
     }
 }
 

@@ -1,5 +1,5 @@
 //! Threads that play rows at one table.
-use crate::row::{Difference, Player, first_difference};
+use crate::row::Difference;
 use std::alloc::{AllocError, Global};
 use std::sync::Arc;
 use std::sync::atomic::AtomicUsize;
@@ -57,29 +57,4 @@ pub fn joined<R: Threads>(rt: &R, started: Started) -> Option<Difference> {
         found = thread.join(rt).or(found);
     }
     found
-}
-
-/// Commands and their answers.
-pub type Line = (&'static str, &'static str);
-
-/// One plays the first line alone, and the last one beside so many threads at a table. Returns what
-/// was said otherwise than it was to be.
-///
-/// # Errors
-///
-/// If a thread isn't started.
-pub fn play_beside<T: Table + 'static, P: Player, R: Threads>(
-    rt: &R,
-    alloc: Global,
-    player: &mut P,
-    (table, threads): (&Arc<T>, usize),
-    [first, last]: [Line; 2],
-) -> Result<Option<Difference>, AllocError> {
-    let alone = first_difference(player, first.0, first.1);
-    if alone.is_some() {
-        return Ok(alone);
-    }
-    let others = started(rt, alloc, table, threads)?;
-    let beside = first_difference(player, last.0, last.1);
-    Ok(joined(rt, others).or(beside))
 }

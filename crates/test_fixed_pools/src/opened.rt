@@ -1,14 +1,9 @@
-//! Pools of counted values, and how one is played with.
+//! Pools of counted values, and how a row is played with one.
 ghost use Rattle.std.specs.Prelude.{◌≤◌};
 
-use crate::model::FixedModel;
-use crate::player::{FixedPlayer, Pool};
+use crate::player::{FixedPlayer, Owned, Pool};
 use fixed_pools::{FixedObjectPool, PullError};
-use rows::asked_again;
-use rows::game::{Beside, Trial, replayed};
-use rows::play::{Play, perform};
-use rows::refusals::{Again, Refusals};
-use rows::row::Command;
+use rows::row::first_difference;
 use rows::setting::{Setting, function_objects};
 use std::alloc::Global;
 use std::process::Abort;
@@ -27,69 +22,15 @@ pub fn opened(alloc: Global, setting: &Arc<Setting>, items: usize) -> Result<Arc
     Ok(Arc::new(alloc, FixedObjectPool::new(alloc, init, reset, items)?)?)
 }
 
-type FixedGame<'p> = Beside<Again<'p, FixedPlayer<'p>>, FixedModel>;
-
-/// Games with pools of so many items.
-#[derive(Clone, Copy)]
-struct FixedTrial {
-    alloc: Global,
-    items: usize,
-}
-
-/// Returns so many, or 1 in place of 0.
-pub fn at_least_one(count: usize) -> usize
-    ensures { 1 ≤ result }
-{
-    if count == 0 { 1 } else { count }
-}
-
-impl FixedTrial {
-    fn game<'p>(
-        &self,
-        pool: &'p Arc<Pool>,
-        setting: &'p Arc<Setting>,
-        refusals: &'p Refusals,
-    ) -> Result<FixedGame<'p>, PullError> {
-        let player = FixedPlayer::new(self.alloc, pool, setting, self.items)?;
-        Ok(Beside {
-            player: Again { player, refusals },
-            model: FixedModel::new(self.alloc, self.items)?,
-        })
+/// The last owned items of a pool come back. Nothing is dropped before the last of them, and then
+/// all but what was forgotten, `init` and the reset too.
+pub fn ends(rt: &impl Abort, owned: Vec<Owned>, setting: &Arc<Setting>, forgotten: usize) {
+    for item in owned {
+        assert_eq!(*rt; setting.tally.drops(), 0);
+        drop(item);
     }
-
-    fn is_unfair(&self, list: &[Command]) -> Result<bool, PullError> {
-        let refusals = Refusals::new();
-        let setting = Setting::new(self.alloc, NEVER)?;
-        let pool = opened(self.alloc, &setting, at_least_one(self.items))?;
-        let mut game = self.game(&pool, &setting, &refusals)?;
-        Ok(replayed(&mut game, list).is_some())
-    }
-}
-
-impl Trial for FixedTrial {
-    fn fails(&self, list: &[Command]) -> bool {
-        matches!(self.is_unfair(list), Ok(true))
-    }
-}
-
-/// Plays with a new pool of so many items, and ends the pool. Returns what it met of refused memory.
-pub fn plays_with(rt: &(impl Abort + AllocGlobal), items: usize, what: Play<'_>) -> Refusals
-    requires { 1 ≤ items }
-{
-    let alloc = rt.alloc();
-    let refusals = Refusals::new();
-    let trial = FixedTrial { alloc, items };
-    let setting = asked_again!(rt, refusals, Setting::new(alloc, NEVER));
-    let pool = asked_again!(rt, refusals, opened(alloc, &setting, items));
-    let mut game = asked_again!(rt, refusals, trial.game(&pool, &setting, &refusals));
-    let found = perform(alloc, &mut game, what, &trial).expect(rt, "memory is left");
-    assert!(*rt; found.is_none(), "{found:?}");
-    assert_eq!(*rt; setting.tally.drops(), 0);
-    let left = game.into_player().player.held.left();
-    let left = left.expect(rt, "memory is left");
-    drop(pool);
-    assert!(*rt; left.ends(&setting));
-    refusals
+    let left = (setting.tally.living(), Arc::strong_count(setting));
+    assert_eq!(*rt; left, (forgotten, 1));
 }
 
 /// Plays a row with a new pool of so many items, and ends the pool.
@@ -101,5 +42,13 @@ pub fn plays(
 )
     requires { 1 ≤ items }
 {
-    drop(plays_with(rt, items, Play::Row(commands, answers)));
+    let setting = Setting::new(rt.alloc(), NEVER).expect(rt, "memory is left");
+    let pool = opened(rt.alloc(), &setting, items).expect(rt, "a pool is made");
+    let player = FixedPlayer::new(rt.alloc(), &pool, &setting, items);
+    let mut player = player.expect(rt, "memory is left");
+    assert_eq!(*rt; first_difference(&mut player, commands, answers), None);
+    let forgotten = player.forgotten;
+    let owned = player.into_owned(rt.alloc()).expect(rt, "memory is left");
+    drop(pool);
+    ends(rt, owned, &setting, forgotten);
 }

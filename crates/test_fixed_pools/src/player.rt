@@ -9,13 +9,12 @@ use fixed_pools::fixed_object_pool::{Near, PoolNote};
 use fixed_pools::page::PullPass;
 use fixed_pools::{FixedObjectPool, FixedOwnedReusable, FixedReusable, PullError};
 use pool_parts::reusable::Reusable;
-use rows::held::{Held, Item, Pulled};
 use rows::row::{Command, Player};
 use rows::said::Said;
-use rows::setting::{Makes, Resets, Setting, said_of_two};
-use std::alloc::Global;
+use rows::setting::{Makes, Resets, Setting, refused, said_of_two};
+use std::alloc::{AllocError, Global};
 use std::sync::Arc;
-use std::thread;
+use std::{mem, thread};
 use test_values::tallied::Tallied;
 
 pub type Pool = FixedObjectPool<Tallied, Makes, Resets>;
@@ -24,51 +23,62 @@ type Borrowed<'p> = FixedReusable<'p, Tallied, Makes, Resets>;
 
 pub type Owned = FixedOwnedReusable<Tallied, Makes, Resets>;
 
-/// An item that is held.
+/// An item, however it was pulled.
 #[derive(Drop)]
-pub struct Of<S> {
-    item: S,
+enum Item<'p> {
+    Borrowed(Borrowed<'p>),
+    Owned(Owned),
 }
 
-/// Names what was pulled as an item.
-fn wrapped<S: Drop>(pulled: Result<S, PullError>) -> Result<Of<S>, PullError> {
-    Ok(Of { item: pulled? })
-}
-
-impl Item for Of<Borrowed<'_>> {
-    fn place(&self) -> (usize, usize) {
-        (self.item.page_number(), self.item.page_id() as usize)
+impl Item<'_> {
+    fn number(&self) -> usize {
+        match self {
+            Item::Borrowed(item) => item.number(),
+            Item::Owned(item) => item.number(),
+        }
     }
 
     fn value(&self) -> usize {
-        self.item.number
+        match self {
+            Item::Borrowed(item) => item.number,
+            Item::Owned(item) => item.number,
+        }
     }
 
     fn write(&mut self, value: usize) {
-        self.item.number = value;
+        match self {
+            Item::Borrowed(item) => item.number = value,
+            Item::Owned(item) => item.number = value,
+        }
     }
 
-    fn give(self) {
-        drop(self.item.give_back());
+    /// Its page, its number in the page, and its value.
+    fn seen(&self) -> Said {
+        let (page, id) = match self {
+            Item::Borrowed(item) => (item.page_number(), item.page_id()),
+            Item::Owned(item) => (item.page_number(), item.page_id()),
+        };
+        Said::of("lies")
+            .and(page)
+            .and(id as usize)
+            .and(self.value())
+    }
+
+    /// Returns it by a call, not by its drop.
+    fn give_back(self) {
+        match self {
+            Item::Borrowed(item) => drop(item.give_back()),
+            Item::Owned(item) => drop(item.give_back()),
+        }
     }
 }
 
-impl Item for Of<Owned> {
-    fn place(&self) -> (usize, usize) {
-        (self.item.page_number(), self.item.page_id() as usize)
-    }
+fn borrowed<'p>(pulled: Result<Borrowed<'p>, PullError>) -> Result<Item<'p>, PullError> {
+    Ok(Item::Borrowed(pulled?))
+}
 
-    fn value(&self) -> usize {
-        self.item.number
-    }
-
-    fn write(&mut self, value: usize) {
-        self.item.number = value;
-    }
-
-    fn give(self) {
-        drop(self.item.give_back());
-    }
+fn owned<'p>(pulled: Result<Owned, PullError>) -> Result<Item<'p>, PullError> {
+    Ok(Item::Owned(pulled?))
 }
 
 /// Pulls by one pass.
@@ -119,11 +129,7 @@ fn by_owner(pool: &Arc<Pool>, page: usize) -> Result<Owned, PullError> {
 
 /// Pulls by one more owner, and an item comes back. If the pull was refused, its owner pulls then
 /// by the note of the refusal.
-fn by_owner_after(
-    pool: &Arc<Pool>,
-    held: Pulled<Of<Borrowed<'_>>, Of<Owned>>,
-    page: usize,
-) -> Result<Owned, PullError> {
+fn by_owner_after(pool: &Arc<Pool>, held: Item<'_>, page: usize) -> Result<Owned, PullError> {
     let owner = Arc::try_clone(pool)?;
     let note = owner.note();
     let pulled = owner.pull_by_owner(page, note);
@@ -207,7 +213,9 @@ pub struct FixedPlayer<'p> {
     pool: &'p Arc<Pool>,
     setting: &'p Arc<Setting>,
     near: Near<'p, Tallied, Makes, Resets>,
-    pub held: Held<Of<Borrowed<'p>>, Of<Owned>>,
+    held: Vec<Item<'p>>,
+    /// How many items were forgotten, which stay out for good.
+    pub forgotten: usize,
     /// What this player alone writes by `often`.
     pub mark: usize,
 }
@@ -219,42 +227,78 @@ impl<'p> FixedPlayer<'p> {
         pool: &'p Arc<Pool>,
         setting: &'p Arc<Setting>,
         room: usize,
-    ) -> Result<FixedPlayer<'p>, PullError> {
+    ) -> Result<FixedPlayer<'p>, AllocError> {
         Ok(FixedPlayer {
             pool,
             setting,
             near: pool.near(),
-            held: Held::new(alloc, room)?,
+            held: Vec::with_capacity(alloc, room)?,
+            forgotten: 0,
             mark: 0,
         })
     }
 
-    /// Pulls by a note that was told what an item's holder knows.
-    fn after(&mut self, index: usize) -> Said {
-        match self.held.item(index) {
-            None => Said::of("not held"),
-            Some(Pulled::Owned(_)) => Said::of("not borrowed"),
-            Some(Pulled::Borrowed(Of { item })) => {
-                let pulled = tried_after(item);
-                self.held.borrow(wrapped(pulled))
+    /// Holds what was pulled.
+    fn hold(&mut self, pulled: Result<Item<'p>, PullError>) -> Said {
+        match pulled {
+            Ok(item) => {
+                let said = Said::of("pulled").and(item.number()).and(item.value());
+                match self.held.push(item) {
+                    Ok(()) => said,
+                    Err(_) => Said::of("no room"),
+                }
             }
+            Err(cause) => refused(cause),
         }
     }
 
-    /// A held item leaves, and one is pulled.
-    fn again(&mut self, command: Command) -> Said {
+    /// Does a command for which an item is held.
+    fn use_held(&mut self, command: Command) -> Said {
+        let [index, number, _] = command.numbers;
+        let Some(item) = self.held.get_mut(index) else {
+            return Said::of("not held");
+        };
+        match command.word {
+            "look" => item.seen(),
+            "write" => {
+                item.write(number);
+                Said::of("written")
+            }
+            "after" => match item {
+                Item::Borrowed(item) => {
+                    let pulled = tried_after(item);
+                    self.hold(borrowed(pulled))
+                }
+                Item::Owned(_) => Said::of("not borrowed"),
+            },
+            _ => Said::of("no such command"),
+        }
+    }
+
+    /// Does a command by which a held item leaves.
+    fn leave(&mut self, command: Command) -> Said {
         let [index, page, _] = command.numbers;
-        match (command.word, self.held.take(index)) {
-            (_, None) => Said::of("not held"),
-            ("owner_after", Some(item)) => self
-                .held
-                .own(wrapped(by_owner_after(self.pool, item, page))),
-            (_, Some(Pulled::Borrowed(Of { item }))) => self
-                .held
-                .borrow(wrapped(tried_again(item))),
-            (_, Some(Pulled::Owned(Of { item }))) => self
-                .held
-                .own(wrapped(by_owner_again(item, page))),
+        if self.held.len() <= index {
+            return Said::of("not held");
+        }
+        let item = self.held.remove(index);
+        match (command.word, item) {
+            ("again", Item::Borrowed(item)) => self.hold(borrowed(tried_again(item))),
+            ("again", Item::Owned(item)) => self.hold(owned(by_owner_again(item, page))),
+            ("owner_after", item) => self.hold(owned(by_owner_after(self.pool, item, page))),
+            ("give", item) => {
+                item.give_back();
+                Said::of("returned")
+            }
+            ("forget", Item::Borrowed(item)) => {
+                mem::forget(item);
+                self.forgotten = self.forgotten.wrapping_add(1);
+                Said::of("forgotten")
+            }
+            (_, item) => {
+                drop(item);
+                Said::of("returned")
+            }
         }
     }
 
@@ -289,6 +333,17 @@ impl<'p> FixedPlayer<'p> {
         }
         Said::of("refused").and(refusals)
     }
+
+    /// The owned items that are held. The borrowed ones come back.
+    pub fn into_owned(self, alloc: Global) -> Result<Vec<Owned>, AllocError> {
+        let mut owned = Vec::with_capacity(alloc, self.held.len())?;
+        for item in self.held {
+            if let Item::Owned(item) = item {
+                owned.push(item)?;
+            }
+        }
+        Ok(owned)
+    }
 }
 
 impl<'p> Player for FixedPlayer<'p> {
@@ -296,12 +351,15 @@ impl<'p> Player for FixedPlayer<'p> {
         let [first, second, _] = command.numbers;
         let pool = self.pool;
         match command.word {
-            "pull" => self.held.borrow(wrapped(pool.pull())),
-            "near" => self.held.borrow(wrapped(pool.pull_near(first))),
-            "here" => self.held.borrow(wrapped(self.near.pull())),
-            "try" => self.held.borrow(wrapped(tried(pool))),
-            "owned" => self.held.own(wrapped(pool.pull_owned())),
-            "owner" => self.held.own(wrapped(by_owner(pool, first))),
+            "pull" => self.hold(borrowed(pool.pull())),
+            "near" => self.hold(borrowed(pool.pull_near(first))),
+            "here" => {
+                let pulled = self.near.pull();
+                self.hold(borrowed(pulled))
+            }
+            "try" => self.hold(borrowed(tried(pool))),
+            "owned" => self.hold(owned(pool.pull_owned())),
+            "owner" => self.hold(owned(by_owner(pool, first))),
             "place" => {
                 self.near = pool.near();
                 Said::of("at page").and(self.near.page_number())
@@ -314,9 +372,8 @@ impl<'p> Player for FixedPlayer<'p> {
             "often" => self.often(first),
             "each_way" => self.each_way(first),
             "owners" => self.setting.owners(Arc::strong_count(pool)),
-            "after" => self.after(first),
-            "again" | "owner_after" => self.again(command),
-            "look" | "write" | "return" | "give" | "forget" => self.held.play(command),
+            "look" | "write" | "after" => self.use_held(command),
+            "return" | "give" | "again" | "owner_after" | "forget" => self.leave(command),
             _ => self.setting.play(command),
         }
     }

@@ -6,12 +6,15 @@ use crate::opened::opened;
 use crate::player::{FixedPlayer, Pool};
 use rows::row::{Difference, first_difference};
 use rows::setting::Setting;
-use rows::threads::{Line, Table, play_beside};
+use rows::threads::{Table, joined, started};
 use std::alloc::Global;
 use std::process::Abort;
 use std::sync::Arc;
 use std::thread::Threads;
 use test_values::counted::NEVER;
+
+/// Commands and their answers.
+type Row = (&'static str, &'static str);
 
 /// A pool, and what each thread plays on it.
 #[derive(Drop)]
@@ -19,7 +22,7 @@ struct Shared {
     pool: Arc<Pool>,
     setting: Arc<Setting>,
     alloc: Global,
-    line: Line,
+    row: Row,
 }
 
 impl Table for Shared {
@@ -29,37 +32,39 @@ impl Table for Shared {
             return Some(Difference::BadRow("no memory"));
         };
         player.mark = index.wrapping_add(1_000);
-        let found = first_difference(&mut player, self.line.0, self.line.1);
+        let found = first_difference(&mut player, self.row.0, self.row.1);
         self.setting.come();
         found
     }
 }
 
-/// One who opens a pool of so many items plays the first line alone and the last one beside so many
-/// threads, which play the line between them.
-fn plays_beside<R: Abort + AllocGlobal + Threads>(
+/// One who opens a pool of so many items plays the first row alone and the last one beside so many
+/// threads, which play the row between them.
+fn play_beside<R: Abort + AllocGlobal + Threads>(
     rt: &R,
     items: usize,
     threads: usize,
-    rows: [Line; 3],
+    rows: [Row; 3],
 )
     requires { 1 ≤ items }
 {
     let alloc = rt.alloc();
-    let [first, line, last] = rows;
+    let [first, row, last] = rows;
     let setting = Setting::new(alloc, NEVER).expect(rt, "memory is left");
     let pool = opened(alloc, &setting, items).expect(rt, "a pool is made");
     let shared = Shared {
-        pool,
-        setting,
+        pool: Arc::try_clone(&pool).expect(rt, "memory is left"),
+        setting: Arc::try_clone(&setting).expect(rt, "memory is left"),
         alloc,
-        line,
+        row,
     };
     let shared = Arc::new(alloc, shared).expect(rt, "memory is left");
-    let player = FixedPlayer::new(alloc, &shared.pool, &shared.setting, items);
+    let player = FixedPlayer::new(alloc, &pool, &setting, items);
     let mut player = player.expect(rt, "memory is left");
-    let found = play_beside(rt, alloc, &mut player, (&shared, threads), [first, last]);
-    assert_eq!(*rt; found, Ok(None));
+    assert_eq!(*rt; first_difference(&mut player, first.0, first.1), None);
+    let others = started(rt, alloc, &shared, threads).expect(rt, "each thread is started");
+    assert_eq!(*rt; first_difference(&mut player, last.0, last.1), None);
+    assert_eq!(*rt; joined(rt, others), None);
 }
 
 #[test]
@@ -69,7 +74,7 @@ fn five_threads_hold_the_first_five_items(rt: HostRuntime) {
         ("pull; meet 5; until 6", "pulled _ _; met; met"),
         ("until 5; pull; meet 6", "met; pulled 5 5; met"),
     ];
-    plays_beside(&rt, 33, 5, rows);
+    play_beside(&rt, 33, 5, rows);
 }
 
 #[test]
@@ -79,7 +84,7 @@ fn four_threads_are_refused_while_all_is_held(rt: HostRuntime) {
         ("pull*1000", "refused limit"),
         ("until 4; return 0*33; pull*33", "met; returned; pulled _ _"),
     ];
-    plays_beside(&rt, 33, 4, rows);
+    play_beside(&rt, 33, 4, rows);
 }
 
 /// Each has its item alone, and all come back.
@@ -90,7 +95,7 @@ fn eight_threads_share_two_items(rt: HostRuntime) {
         ("often 5000", "wrong 0"),
         ("until 8; pull*2", "met; pulled 0+ _"),
     ];
-    plays_beside(&rt, 2, 8, rows);
+    play_beside(&rt, 2, 8, rows);
 }
 
 #[test]
@@ -100,7 +105,7 @@ fn eight_threads_share_seventy_items(rt: HostRuntime) {
         ("often 5000", "wrong 0"),
         ("until 8; pull*70", "met; pulled 0+ _"),
     ];
-    plays_beside(&rt, 70, 8, rows);
+    play_beside(&rt, 70, 8, rows);
 }
 
 /// As many threads as items, each of which pulls one item at a time: at each moment an item is free
@@ -109,7 +114,7 @@ fn none_is_refused<R: Abort + AllocGlobal + Threads>(rt: &R, count: usize, comma
     requires { 1 ≤ count }
 {
     let rows = [("place", ".."), (commands, "refused 0"), ("place", "..")];
-    plays_beside(rt, count, count, rows);
+    play_beside(rt, count, count, rows);
 }
 
 #[test]

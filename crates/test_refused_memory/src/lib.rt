@@ -12,6 +12,8 @@ mod buffers;
 #[cfg(test)]
 mod engine;
 #[cfg(test)]
+mod fixed_pool;
+#[cfg(test)]
 mod linear_pool;
 #[cfg(test)]
 mod pages;
