@@ -1,6 +1,4 @@
-//! What a test has met of refused memory, and one who asks again for what was refused.
-use crate::row::{Command, Player};
-use crate::said::Said;
+//! What a test has met of refused memory, and how it asks again for what was refused.
 use pool_parts::PullError;
 use std::cell::Cell;
 
@@ -52,23 +50,5 @@ impl Refusals {
         } else {
             println!(rt; "each request for memory was met")
         };
-    }
-}
-
-/// A player who does once more what memory was refused for.
-#[derive(Drop)]
-pub struct Again<'r, P> {
-    pub player: P,
-    pub refusals: &'r Refusals,
-}
-
-impl<P: Player> Player for Again<'_, P> {
-    fn play(&mut self, command: Command) -> Said {
-        let said = self.player.play(command);
-        if said.words() != "refused memory" {
-            return said;
-        }
-        self.refusals.note();
-        self.player.play(command)
     }
 }
