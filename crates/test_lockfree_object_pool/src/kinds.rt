@@ -222,7 +222,7 @@ fn what_each_owns_is_dropped(rt: HostRuntime) {
 fn items_of_each_size_come_back(rt: HostRuntime) {
     for kind in KINDS {
         for items in SIZES {
-            // `test_kept_memory`, a built program, has pools and cores of 300,000 items and more.
+            // `test_sizes`, a built program, has pools and cores of 300,000 items and more.
             if items <= 2_049 {
                 ends_after_use(&rt, rt.alloc(), kind, items);
             }

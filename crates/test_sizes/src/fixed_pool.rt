@@ -1,0 +1,45 @@
+//! Fixed pools of many items.
+ghost use Rattle.std.specs.Prelude.{◌≤◌};
+
+use crate::numbers::{Numbers, PAGE_ITEMS};
+use crate::pulls::Fixed;
+use crate::rounds::come_back;
+use crate::wrong::Wrong;
+use lockfree_object_pool::PullError;
+use lockfree_object_pool::closures::Keep;
+use std::alloc::Global;
+use std::sync::Arc;
+
+/// How many times the pages of another pool a fixed pool has.
+const TIMES: u64 = 4;
+
+/// Pulls each item, and no more.
+///
+/// # Errors
+///
+/// `Wrong` names what was seen and may not be.
+pub fn borrowed<R>(rt: &R, alloc: Global, pages: u16) -> Result<(), Wrong>
+    requires { 1 ≤ pages }
+{
+    let numbers = Numbers::new(alloc)?;
+    let items = u64::from(pages) * PAGE_ITEMS * TIMES;
+    let pool = Fixed::new(alloc, numbers.share()?, Keep, items as usize)?;
+    come_back(rt, alloc, items, Some(PullError::Limit), &&pool)?;
+    numbers.expect_made(items)
+}
+
+/// Pulls as `borrowed` does, by owned items.
+///
+/// # Errors
+///
+/// `Wrong` names what was seen and may not be.
+pub fn owned<R>(rt: &R, alloc: Global, pages: u16) -> Result<(), Wrong>
+    requires { 1 ≤ pages }
+{
+    let numbers = Numbers::new(alloc)?;
+    let items = u64::from(pages) * PAGE_ITEMS * TIMES;
+    let pool = Fixed::new(alloc, numbers.share()?, Keep, items as usize)?;
+    let pool = Arc::new(alloc, pool)?;
+    come_back(rt, alloc, items, Some(PullError::Limit), &pool)?;
+    numbers.expect_made(items)
+}
