@@ -1,8 +1,6 @@
-//! Calls, what is answered to them, and why a comparison stops.
-use crate::schedules::judge::Unlawful;
-use crate::schedules::step::Step;
+//! Calls, what is answered to them, and how two answers differ.
+use crate::tally::Counts;
 use lockfree_object_pool::PullError;
-use object_pool_cores::interleave::Seen;
 use std::alloc::{AllocError, AllocFailed};
 use thiserror::Error;
 
@@ -16,15 +14,17 @@ pub enum Call {
     AttachOwned,
     Look,
     Write,
-    /// Writes, and then drops.
-    WriteLast,
     Drop,
     Forget,
-    /// Nothing more is done.
     End,
 }
 
 impl Call {
+    /// Returns whether the call attaches a value.
+    pub fn attaches(self) -> bool {
+        matches!(self, Call::Attach | Call::AttachOwned)
+    }
+
     /// Returns whether the item that comes is to own its pool.
     pub fn owns(self) -> bool {
         matches!(self, Call::PullOwned | Call::AttachOwned)
@@ -34,8 +34,8 @@ impl Call {
 /// What a call gave.
 #[derive(Clone, Copy, Debug, PartialEq, Eq)]
 pub enum Answer {
-    /// No item is held on which it could be done.
-    Nothing,
+    /// The pool is there.
+    Opened,
     /// An item came: its number, where it has one, and what it shows.
     Came { number: Option<u128>, shown: u64 },
     /// There is none, for this cause.
@@ -47,37 +47,24 @@ pub enum Answer {
 }
 
 impl Answer {
-    /// Returns the number of the item that came, or 0.
-    pub fn number(self) -> u128 {
-        match self {
-            Answer::Came { number, .. } => number.unwrap_or(0),
-            _ => 0,
-        }
+    /// Returns the page of the item that came, or 0 where there is none, or no number.
+    pub fn page(self) -> usize {
+        let Answer::Came { number, .. } = self else {
+            return 0;
+        };
+        usize::try_from(number.unwrap_or(0) / 32).unwrap_or(0)
     }
 }
 
-/// How often a side's `init` was called, its `reset` was called, and an item of it was dropped.
-pub type Counts = [usize; 3];
-
-/// Why a session or a schedule stopped.
+/// Why a session stopped.
 #[derive(Clone, Copy, Debug, Error)]
 pub enum Stopped {
     #[error("out of memory")]
     Memory,
-    #[error("both pools were refused alike")]
-    NoPool,
-    #[error("the pool's opening is refused by {0:?}, and the core's by {1:?}")]
-    OtherOpening(Option<PullError>, Option<PullError>),
     #[error("{0:?} answers {1:?} where the core answers {2:?}")]
     OtherAnswer(Call, Answer, Answer),
     #[error("{0:?} leaves {1:?} where the core leaves {2:?}")]
     OtherCounts(Call, Counts, Counts),
-    #[error("agent {0}: {1:?} answers {2:?} where the table has {3:?}")]
-    OtherSeen(usize, Step, Seen, Seen),
-    #[error("agent {0}: {1:?} leaves other words, or another value in its hand")]
-    OtherState(usize, Step),
-    #[error("agent {0}: {1:?}, and {2}")]
-    Unlawful(usize, Step, Unlawful),
 }
 
 impl From<AllocError> for Stopped {
@@ -92,13 +79,11 @@ impl<X: Drop> From<AllocFailed<X>> for Stopped {
     }
 }
 
-impl From<PullError> for Stopped {
-    fn from(_error: PullError) -> Stopped {
-        Stopped::Memory
-    }
-}
-
 /// Stops where the running pool's answer isn't the core's.
+///
+/// # Errors
+///
+/// `Stopped` if the two answers differ.
 pub fn compare(call: Call, running: Answer, core: Answer) -> Result<(), Stopped> {
     if running == core {
         Ok(())

@@ -4,7 +4,7 @@ ghost use Rattle.std.specs.Prelude.{◌<◌};
 use rand_core::Rng;
 use rand_pcg::Pcg32;
 
-/// The random choices of one session, or of all schedules.
+/// The random choices of one session.
 #[derive(Drop)]
 pub struct Dice {
     random: Pcg32,
@@ -31,8 +31,8 @@ impl Dice {
         self.below(times) == 0
     }
 
-    /// Draws any number, as what is written to an item.
-    pub fn word(&mut self) -> u32 {
-        self.random.next_u32()
+    /// Draws a content that is written to an item.
+    pub fn content(&mut self) -> u64 {
+        u64::from(self.random.next_u32())
     }
 }

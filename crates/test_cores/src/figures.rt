@@ -1,80 +1,73 @@
 //! What was seen, in figures.
+use crate::answer::{Answer, Call};
+use lockfree_object_pool::PullError;
 use std::fmt::{self, Display, Formatter, Write};
 
-/// What the turns are, calls or the events of schedules.
-#[derive(Clone, Copy)]
-pub enum Turns {
-    Calls,
-    Events,
-}
-
-impl Turns {
-    /// What is counted of them.
-    fn names(self) -> &'static [&'static str] {
-        match self {
-            Turns::Calls => &[
-                "pulled",
-                "attached",
-                "dropped",
-                "forgotten",
-                "refused by init",
-                "by a limit",
-            ],
-            Turns::Events => &[
-                "pulled",
-                "returned",
-                "pages linked",
-                "links lost",
-                "clearings lost",
-                "refused",
-                "pages asked by a hint",
-                "not enabled",
-            ],
-        }
-    }
-}
-
-/// How often each of their names was seen, in so many turns of so many rounds.
-#[derive(Clone, Copy)]
+/// How often each kind of call was done and each kind of answer came.
+#[derive(Clone, Copy, Default)]
 pub struct Figures {
-    pub rounds: u64,
-    pub turns: u64,
+    pub calls: u64,
+    pub sessions: u64,
+    pulled: u64,
+    attached: u64,
+    dropped: u64,
+    forgotten: u64,
+    refused_by_init: u64,
+    refused_by_limit: u64,
     /// The greatest number that came.
-    pub greatest: u128,
-    of: Turns,
-    counts: [u64; 8],
+    greatest: u128,
 }
 
 impl Figures {
-    /// Creates the figures of such turns, all 0.
-    pub fn new(of: Turns) -> Figures {
-        Figures {
-            rounds: 0,
-            turns: 0,
-            greatest: 0,
-            of,
-            counts: [0; 8],
+    /// Counts a call with what was answered on both sides.
+    pub fn count(&mut self, call: Call, answer: Answer) {
+        add(&mut self.calls, 1);
+        match (call, answer) {
+            (Call::Attach | Call::AttachOwned, Answer::Came { .. }) => add(&mut self.attached, 1),
+            (_, Answer::Came { number, .. }) => {
+                add(&mut self.pulled, 1);
+                self.greatest = self.greatest.max(number.unwrap_or(0));
+            }
+            (_, Answer::Refused(PullError::Init)) => add(&mut self.refused_by_init, 1),
+            (_, Answer::Refused(PullError::Limit)) => add(&mut self.refused_by_limit, 1),
+            (Call::Drop, _) => add(&mut self.dropped, 1),
+            (Call::Forget, _) => add(&mut self.forgotten, 1),
+            _ => {}
         }
     }
 
-    /// Counts a turn in which this was seen, or nothing that has a name.
-    pub fn count(&mut self, seen: &str) {
-        self.turns = self.turns.saturating_add(1);
-        let names = self.of.names();
-        let place = names.iter().position(|name| *name == seen);
-        if let Some(count) = self.counts.get_mut(place.unwrap_or(usize::MAX)) {
-            *count = count.saturating_add(1);
-        }
+    /// Adds what a session saw.
+    pub fn add_session(&mut self, session: Figures) {
+        add(&mut self.sessions, 1);
+        add(&mut self.calls, session.calls);
+        add(&mut self.pulled, session.pulled);
+        add(&mut self.attached, session.attached);
+        add(&mut self.dropped, session.dropped);
+        add(&mut self.forgotten, session.forgotten);
+        add(&mut self.refused_by_init, session.refused_by_init);
+        add(&mut self.refused_by_limit, session.refused_by_limit);
+        self.greatest = self.greatest.max(session.greatest);
     }
+}
+
+fn add(count: &mut u64, more: u64) {
+    *count = count.saturating_add(more);
 }
 
 impl Display for Figures {
     fn fmt<W: Write>(&self, f: &mut Formatter<W>) -> fmt::Result {
-        for (place, name) in self.of.names().iter().enumerate() {
-            let before = if place > 0 { ", " } else { "" };
-            let count = self.counts.get(place).copied().unwrap_or(0);
-            write!(f, "{before}{count} {name}")?;
-        }
-        Ok(())
+        write!(f, "{} calls in {} sessions", self.calls, self.sessions)?;
+        write!(f, ": {} pulled, {} attached", self.pulled, self.attached)?;
+        write!(
+            f,
+            ", {} dropped, {} forgotten",
+            self.dropped, self.forgotten
+        )?;
+        write!(
+            f,
+            ", {} refused by init, {} by a limit",
+            self.refused_by_init, self.refused_by_limit
+        )?;
+        write!(f, ", greatest number {}", self.greatest)
     }
 }

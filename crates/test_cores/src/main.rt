@@ -8,57 +8,48 @@
 #![tactic(auto)]
 
 mod answer;
+mod asked;
 mod comparison;
 mod dice;
+mod draws;
 mod figures;
+mod fresh;
+mod maker;
 mod pages;
 mod pools;
+mod recycled;
 mod schedules;
 mod session;
-mod setup;
 mod side;
+mod tallies;
+mod tally;
 mod value;
 
 use answer::Stopped;
-use figures::{Figures, Turns};
+use asked::{Asked, arguments};
+use figures::Figures;
+use fresh::compare_fresh;
 use pages::compare_pages;
-use pools::{
-    compare_buffers, compare_fixed, compare_linear, compare_none, compare_recycled, compare_stack,
-};
+use pools::{compare_fixed, compare_linear, compare_mutex, compare_spin_lock};
+use recycled::{compare_buffers, compare_recycled};
 use schedules::play_all;
-use session::{Element, Kind, drawn, many_held, many_pages};
-use setup::Setup;
+use session::{Element, Kind, Session, drawn, many_held, many_pages};
 use std::alloc::Global;
+use std::io;
 use std::process::ExitCode;
-use std::rt::Env;
 use std::sync::Wait;
-use std::{env, io};
 use value::{Block, Counted, Nothing, Number, Value};
 
 fn main(rt: HostRuntime) -> io::Result<ExitCode> {
-    let Some(numbers) = arguments(&rt) else {
+    let Some((calls, schedules)) = arguments(&rt) else {
         eprintln!(rt; "usage: test_cores SEED CALLS SEED SCHEDULES")?;
         return Ok(ExitCode::from(2));
     };
-    let [seed, calls, schedules_seed, schedules] = numbers;
-    if compare_all(&rt, rt.alloc(), seed, calls)?
-        && play_all(&rt, rt.alloc(), schedules_seed, schedules)?
-    {
+    if compare_all(&rt, rt.alloc(), calls)? && play_all(&rt, rt.alloc(), schedules)? {
         Ok(ExitCode::SUCCESS)
     } else {
         Ok(ExitCode::from(1))
     }
-}
-
-/// The arguments, if they are four numbers.
-fn arguments<R: Env + AllocGlobal>(rt: &R) -> Option<[u64; 4]> {
-    let mut numbers = [0u64; 4];
-    let mut arguments = env::args(rt).ok()?;
-    let _name = arguments.next();
-    for number in numbers.iter_mut() {
-        *number = arguments.next()?.parse().ok()?;
-    }
-    Some(numbers)
 }
 
 /// Does the sessions, until as many calls are done as are asked for, and prints their figures.
@@ -66,12 +57,12 @@ fn arguments<R: Env + AllocGlobal>(rt: &R) -> Option<[u64; 4]> {
 fn compare_all<R: Print + Eprint + Wait + Copy>(
     rt: &R,
     alloc: Global,
-    seed: u64,
-    calls: u64,
+    asked: Asked,
 ) -> io::Result<bool> {
-    let mut figures = Figures::new(Turns::Calls);
+    let Asked { seed, count: calls } = asked;
+    let mut figures = Figures::default();
     for number in 0..u64::MAX {
-        if figures.turns >= calls && number > 2 {
+        if figures.calls >= calls && number > 2 {
             break;
         }
         let session = match number {
@@ -79,47 +70,47 @@ fn compare_all<R: Print + Eprint + Wait + Copy>(
             1 => many_pages(seed, number, calls),
             _ => drawn(seed, number),
         };
-        let setup = Setup::new(alloc, session, figures)?;
-        match compare_items(rt, setup) {
-            Ok(seen) => figures = seen,
-            Err(Stopped::NoPool) => {}
+        match compare_items(rt, alloc, session) {
+            Ok(seen) => figures.add_session(seen),
             Err(stopped) => {
                 eprintln!(rt; "session {number} of seed {seed}, {session:?}: {stopped}")?;
                 return Ok(false);
             }
         }
-        figures.rounds = number.saturating_add(1);
     }
-    let Figures {
-        rounds,
-        turns,
-        greatest,
-        ..
-    } = figures;
-    println!(rt; "{turns} calls in {rounds} sessions: {figures}, greatest number {greatest}")?;
+    println!(rt; "{figures}")?;
     Ok(true)
 }
 
 /// A session with its items.
-fn compare_items<W: Wait + Copy>(rt: &W, setup: Setup) -> Result<Figures, Stopped> {
-    match setup.session.element {
-        Element::Nothing => compare_pools::<Nothing, W>(rt, setup),
-        Element::Number => compare_pools::<Number, W>(rt, setup),
-        Element::Block => compare_pools::<Block, W>(rt, setup),
-        Element::CountedNumber => compare_pools::<Counted<Number>, W>(rt, setup),
-        Element::CountedBlock => compare_pools::<Counted<Block>, W>(rt, setup),
+fn compare_items<W: Wait + Copy>(
+    rt: &W,
+    alloc: Global,
+    session: Session,
+) -> Result<Figures, Stopped> {
+    match session.element {
+        Element::Nothing => compare_pools::<Nothing, W>(rt, alloc, session),
+        Element::Number => compare_pools::<Number, W>(rt, alloc, session),
+        Element::Block => compare_pools::<Block, W>(rt, alloc, session),
+        Element::CountedNumber => compare_pools::<Counted<Number>, W>(rt, alloc, session),
+        Element::CountedBlock => compare_pools::<Counted<Block>, W>(rt, alloc, session),
     }
 }
 
 /// A session on its pool.
-fn compare_pools<T: Value, W: Wait + Copy>(rt: &W, setup: Setup) -> Result<Figures, Stopped> {
-    match setup.session.kind {
-        Kind::Linear => compare_linear::<T>(setup),
-        Kind::Mutex | Kind::SpinLock => compare_stack::<T, W>(rt, setup),
-        Kind::None => compare_none::<T>(setup),
-        Kind::Recycling => compare_recycled(setup),
-        Kind::Buffers => compare_buffers(setup),
-        Kind::Pages => compare_pages::<T>(setup),
-        Kind::Fixed => compare_fixed::<T>(setup),
+fn compare_pools<T: Value, W: Wait + Copy>(
+    rt: &W,
+    alloc: Global,
+    session: Session,
+) -> Result<Figures, Stopped> {
+    match session.kind {
+        Kind::Linear => compare_linear::<T>(alloc, session),
+        Kind::Mutex => compare_mutex::<T, W>(rt, alloc, session),
+        Kind::SpinLock => compare_spin_lock::<T, W>(rt, alloc, session),
+        Kind::None => compare_fresh::<T>(alloc, session),
+        Kind::Recycling => compare_recycled(alloc, session),
+        Kind::Buffers => compare_buffers(alloc, session),
+        Kind::Pages => compare_pages::<T>(alloc, session),
+        Kind::Fixed => compare_fixed::<T>(alloc, session),
     }
 }

@@ -1,96 +1,107 @@
-//! Linear, fixed and stack pools, pools of buffers, and the pool that keeps nothing, each beside its
-//! core.
+//! Linear, fixed and stack pools, each beside its core.
 use crate::answer::{Call, Stopped};
-use crate::comparison::{Comparison, Ended, play};
+use crate::comparison::{Ended, compare_ends, compare_openings, play};
+use crate::dice::Dice;
 use crate::figures::Figures;
-use crate::session::Kind;
-use crate::setup::Setup;
-use crate::side::{Ask, Held, OnCore, Pulled, Side, attached, number_of};
-use crate::value::{Maker, Number, SideTally, Value, closures, told};
+use crate::maker::{Maker, Traces, closures};
+use crate::session::Session;
+use crate::side::{Ask, Held, OnCore, Side, attached, number_of};
+use crate::tallies::Tallies;
+use crate::tally::SideTally;
+use crate::value::Value;
 use lockfree_object_pool::clean::{AnyValue, Clean};
 use lockfree_object_pool::closures::{Init, Reset};
 use lockfree_object_pool::free_list::FreeList;
 use lockfree_object_pool::made_or_reset::MadeOrReset;
-use lockfree_object_pool::recycling::{Pool, Recycler};
 use lockfree_object_pool::stack_object_pool::StackObjectPool;
 use lockfree_object_pool::stack_reusable::StackReusable;
 use lockfree_object_pool::{
     FixedObjectPool, FixedOwnedReusable, FixedReusable, LinearObjectPool, LinearOwnedReusable,
-    LinearReusable, MutexObjectPool, NoneObjectPool, NoneReusable, PullError, SpinLockObjectPool,
+    LinearReusable, MutexObjectPool, PullError, SpinLockObjectPool,
 };
-use object_pool_cores::buffers::{Buffer, BufferPool, Empty};
-use object_pool_cores::sequential::{LinearCore, NoneCore, StackCore};
-use std::marker::PhantomData;
+use object_pool_cores::sequential::{LinearCore, StackCore};
+use std::alloc::Global;
 use std::sync::{Arc, Wait};
 
-type Fixed<T> = FixedObjectPool<T, Maker, Maker, AnyValue>;
+type Linear<T> = LinearObjectPool<T, Maker, Traces, AnyValue>;
+
+type Fixed<T> = FixedObjectPool<T, Maker, Traces, AnyValue>;
 
 /// What is so of each kept value.
-type Kept = MadeOrReset<Maker, Maker, AnyValue>;
+type Kept = MadeOrReset<Maker, Traces, AnyValue>;
 
-type Stack<T, F> = StackObjectPool<T, Maker, Maker, AnyValue, F>;
+type Stack<T, F> = StackObjectPool<T, Maker, Traces, AnyValue, F>;
 
-type Core<T> = LinearCore<T, Maker, Maker, AnyValue>;
+/// Refuses, now and then, one of the calls of `init` for the first page.
+pub fn refuse_opening(tallies: &Tallies, session: Session) {
+    let mut dice = Dice::new(session.seed.wrapping_add(2), session.number);
+    if session.refuses && dice.one_in(4) {
+        tallies.refuse_after(dice.below(40));
+    }
+}
 
 /// Does the session's calls on a linear pool. One thread's pulls find the least free number, as the
 /// core's do.
-pub fn compare_linear<T: Value>(setup: Setup) -> Result<Figures, Stopped> {
-    setup.refuse_opening();
-    let (init, reset) = closures(&setup.running)?;
-    let limit = setup.session.limit;
-    let pool = match limit {
-        Some(pages) if pages > 0 => LinearObjectPool::with_limit(setup.alloc, init, reset, pages),
-        _ => LinearObjectPool::new(setup.alloc, init, reset),
+///
+/// # Errors
+///
+/// `Stopped` if the two sides differ, or memory is refused.
+pub fn compare_linear<T: Value>(alloc: Global, session: Session) -> Result<Figures, Stopped> {
+    let tallies = Tallies::new(alloc)?;
+    refuse_opening(&tallies, session);
+    let pool = new_linear::<T>(alloc, &tallies.running, session.limit);
+    let core = new_core::<T>(alloc, &tallies.core, session.limit);
+    let Some((pool, core)) = compare_openings(&tallies, pool, core)? else {
+        return Ok(Figures::default());
     };
-    let core = new_core::<T>(&setup, limit)?;
-    compare_opened(setup, pool, core)
-}
-
-/// Does the session's calls on a pool of recyclable numbers, without a limit.
-pub fn compare_recycled(setup: Setup) -> Result<Figures, Stopped> {
-    let pool = Pool::<Number>::with_recycler(setup.alloc);
-    let recycler = Recycler::new(setup.alloc);
-    let core = LinearCore::new(setup.alloc, recycler, recycler);
-    compare_opened(setup, pool, core)
-}
-
-/// The session's calls on any linear pool.
-fn compare_opened<T: Value, I: Init<T, K>, S: Reset<T, K>, K: Clean<T>>(
-    setup: Setup,
-    pool: Result<LinearObjectPool<T, I, S, K>, PullError>,
-    core: Result<LinearCore<T, I, S, K>, PullError>,
-) -> Result<Figures, Stopped> {
-    let (pool, core) = setup.opened(pool, core)?;
-    let pool = Arc::new(setup.alloc, pool)?;
-    let (core, setup) = played_linear(&pool, OnCore::new(core), setup)?;
+    let pool = Arc::new(alloc, pool)?;
+    let ended = played_linear(alloc, &pool, core, session, tallies)?;
     drop(pool);
-    setup.end(core)
+    compare_ends(ended)
 }
 
 /// What is left behind the session's calls.
-fn played_linear<T: Value, I: Init<T, K>, S: Reset<T, K>, K: Clean<T>>(
-    pool: &Arc<LinearObjectPool<T, I, S, K>>,
-    core: OnCore<T, LinearCore<T, I, S, K>>,
-    setup: Setup,
-) -> Result<Ended<OnCore<T, LinearCore<T, I, S, K>>>, Stopped> {
-    play(OnLinear { pool }, core, setup, 0)
+fn played_linear<T: Value>(
+    alloc: Global,
+    pool: &Arc<Linear<T>>,
+    core: OnCore<T, Core<T>>,
+    session: Session,
+    tallies: Tallies,
+) -> Result<Ended<OnCore<T, Core<T>>>, Stopped> {
+    play(alloc, OnLinear { pool }, core, session, tallies, 0)
 }
 
-fn new_core<T: Value>(
-    setup: &Setup,
+fn new_linear<T: Value>(
+    alloc: Global,
+    tally: &Arc<SideTally>,
     limit: Option<usize>,
-) -> Result<Result<Core<T>, PullError>, Stopped> {
-    let (init, reset) = closures(&setup.core)?;
-    Ok(match limit {
-        Some(pages) if pages > 0 => LinearCore::with_limit(setup.alloc, init, reset, pages),
-        _ => LinearCore::new(setup.alloc, init, reset),
-    })
+) -> Result<Linear<T>, PullError> {
+    let (init, reset) = closures(tally)?;
+    match limit {
+        Some(pages) if pages > 0 => LinearObjectPool::with_limit(alloc, init, reset, pages),
+        _ => LinearObjectPool::new(alloc, init, reset),
+    }
+}
+
+type Core<T> = LinearCore<T, Maker, Traces, AnyValue>;
+
+fn new_core<T: Value>(
+    alloc: Global,
+    tally: &Arc<SideTally>,
+    limit: Option<usize>,
+) -> Result<OnCore<T, Core<T>>, PullError> {
+    let (init, reset) = closures(tally)?;
+    let core = match limit {
+        Some(pages) if pages > 0 => LinearCore::with_limit(alloc, init, reset, pages),
+        _ => LinearCore::new(alloc, init, reset),
+    };
+    Ok(OnCore::new(core?))
 }
 
 /// A linear pool.
 #[derive(Drop)]
-struct OnLinear<'p, T, I: Init<T, K>, S: Reset<T, K>, K: Clean<T>> {
-    pool: &'p Arc<LinearObjectPool<T, I, S, K>>,
+pub struct OnLinear<'p, T, I: Init<T, K>, S: Reset<T, K>, K: Clean<T>> {
+    pub pool: &'p Arc<LinearObjectPool<T, I, S, K>>,
 }
 
 impl<'p, T: Value, I: Init<T, K>, S: Reset<T, K>, K: Clean<T>> Side for OnLinear<'p, T, I, S, K> {
@@ -114,24 +125,41 @@ const MOST_PAGES: usize = 300;
 /// Does the session's calls on a fixed pool. A pull near the page of the core's item finds that
 /// number, the least free one. At first each item is pulled: the pool has made them all, and the core
 /// makes them page by page.
-pub fn compare_fixed<T: Value>(setup: Setup) -> Result<Figures, Stopped> {
-    let pages = setup.session.limit.unwrap_or(40).clamp(1, MOST_PAGES);
-    let (init, reset) = closures(&setup.running)?;
-    let pool = Fixed::<T>::new(setup.alloc, init, reset, pages.saturating_mul(32))?;
-    let core = new_core::<T>(&setup, Some(pages))??;
-    let pool = Arc::new(setup.alloc, pool)?;
-    let (core, setup) = played_fixed(&pool, OnCore::new(core), setup)?;
+///
+/// # Errors
+///
+/// `Stopped` if the two sides differ, or memory is refused.
+pub fn compare_fixed<T: Value>(alloc: Global, session: Session) -> Result<Figures, Stopped> {
+    let tallies = Tallies::new(alloc)?;
+    let pages = session.limit.unwrap_or(40).clamp(1, MOST_PAGES);
+    let (init, reset) = closures(&tallies.running)?;
+    let pool = Fixed::<T>::new(alloc, init, reset, pages.saturating_mul(32));
+    let core = new_core::<T>(alloc, &tallies.core, Some(pages));
+    let (Ok(pool), Ok(core)) = (pool, core) else {
+        return Err(Stopped::Memory);
+    };
+    let pool = Arc::new(alloc, pool)?;
+    let ended = played_fixed(alloc, &pool, core, session, tallies)?;
     drop(pool);
-    setup.end(core)
+    compare_ends(ended)
 }
 
 /// What is left behind the session's calls.
 fn played_fixed<T: Value>(
+    alloc: Global,
     pool: &Arc<Fixed<T>>,
     core: OnCore<T, Core<T>>,
-    setup: Setup,
+    session: Session,
+    tallies: Tallies,
 ) -> Result<Ended<OnCore<T, Core<T>>>, Stopped> {
-    play(OnFixed { pool }, core, setup, pool.items())
+    play(
+        alloc,
+        OnFixed { pool },
+        core,
+        session,
+        tallies,
+        pool.items(),
+    )
 }
 
 /// A fixed pool.
@@ -142,18 +170,18 @@ struct OnFixed<'p, T: Value> {
 
 impl<'p, T: Value> Side for OnFixed<'p, T> {
     type Item = Held<
-        FixedReusable<'p, T, Maker, Maker, AnyValue>,
-        FixedOwnedReusable<T, Maker, Maker, AnyValue>,
+        FixedReusable<'p, T, Maker, Traces, AnyValue>,
+        FixedOwnedReusable<T, Maker, Traces, AnyValue>,
     >;
 
     fn give(&mut self, ask: Ask, _tally: &Arc<SideTally>) -> Result<Self::Item, PullError> {
         if !ask.call.owns() {
-            let item = self.pool.pull_near(ask.near)?;
+            let item = self.pool.pull_near(ask.page)?;
             let number = item.number() as u128;
             return Ok(Held::Borrowed(item, Some(number)));
         }
         let owner = Arc::try_clone(self.pool)?;
-        let Ok(item) = owner.pull_by_owner(ask.near, self.pool.note()) else {
+        let Ok(item) = owner.pull_by_owner(ask.page, self.pool.note()) else {
             return Err(PullError::Limit);
         };
         let number = item.number() as u128;
@@ -161,40 +189,69 @@ impl<'p, T: Value> Side for OnFixed<'p, T> {
     }
 }
 
-/// Does the session's calls on a mutex pool or a spin lock pool. A pull gives the value that was
-/// returned last, as the core's does.
-pub fn compare_stack<T: Value, W: Wait + Copy>(rt: &W, setup: Setup) -> Result<Figures, Stopped> {
-    let (init, reset) = closures(&setup.running)?;
-    if matches!(setup.session.kind, Kind::Mutex) {
-        let pool = MutexObjectPool::new(setup.alloc, init, reset);
-        return compare_listed::<T, _, W>(rt, setup, pool);
-    }
-    let pool = SpinLockObjectPool::new(setup.alloc, init, reset)?;
-    compare_listed::<T, _, W>(rt, setup, pool)
+/// Does the session's calls on a mutex pool.
+///
+/// # Errors
+///
+/// `Stopped` if the two sides differ, or memory is refused.
+pub fn compare_mutex<T: Value, W: Wait + Copy>(
+    rt: &W,
+    alloc: Global,
+    session: Session,
+) -> Result<Figures, Stopped> {
+    let tallies = Tallies::new(alloc)?;
+    let (init, reset) = closures(&tallies.running)?;
+    let pool = Ok(MutexObjectPool::new(alloc, init, reset));
+    compare_stack::<T, _, W>(rt, alloc, session, tallies, pool)
 }
 
-type OnStackCore<T> = OnCore<T, StackCore<T, Maker, Maker, AnyValue>>;
-
-fn compare_listed<T: Value, F: FreeList<T, Kept>, W: Wait + Copy>(
+/// Does the session's calls on a spin lock pool.
+///
+/// # Errors
+///
+/// `Stopped` if the two sides differ, or memory is refused.
+pub fn compare_spin_lock<T: Value, W: Wait + Copy>(
     rt: &W,
-    setup: Setup,
-    pool: Stack<T, F>,
+    alloc: Global,
+    session: Session,
 ) -> Result<Figures, Stopped> {
-    let (init, reset) = closures(&setup.core)?;
-    let core: OnStackCore<T> = OnCore::new(StackCore::new(setup.alloc, init, reset));
-    let pool = Arc::new(setup.alloc, pool)?;
-    let (core, setup) = played_stack(OnStack { rt, pool: &pool }, core, setup)?;
+    let tallies = Tallies::new(alloc)?;
+    let (init, reset) = closures(&tallies.running)?;
+    let pool = SpinLockObjectPool::new(alloc, init, reset);
+    compare_stack::<T, _, W>(rt, alloc, session, tallies, pool)
+}
+
+type OnStackCore<T> = OnCore<T, StackCore<T, Maker, Traces, AnyValue>>;
+
+/// The session's calls. A pull gives the value that was returned last, as the core's does.
+fn compare_stack<T: Value, F: FreeList<T, Kept>, W: Wait + Copy>(
+    rt: &W,
+    alloc: Global,
+    session: Session,
+    tallies: Tallies,
+    pool: Result<Stack<T, F>, PullError>,
+) -> Result<Figures, Stopped> {
+    let (init, reset) = closures(&tallies.core)?;
+    let core: OnStackCore<T> = OnCore::new(StackCore::new(alloc, init, reset));
+    let Some((pool, core)) = compare_openings(&tallies, pool, Ok(core))? else {
+        return Ok(Figures::default());
+    };
+    let pool = Arc::new(alloc, pool)?;
+    let stack = OnStack { rt, pool: &pool };
+    let ended = played_stack(alloc, stack, core, session, tallies)?;
     drop(pool);
-    setup.end(core)
+    compare_ends(ended)
 }
 
 /// What is left behind the session's calls.
 fn played_stack<'p, T: Value, F: FreeList<T, Kept>, W: Wait + Copy>(
+    alloc: Global,
     stack: OnStack<'p, T, F, W>,
     core: OnStackCore<T>,
-    setup: Setup,
+    session: Session,
+    tallies: Tallies,
 ) -> Result<Ended<OnStackCore<T>>, Stopped> {
-    play(stack, core, setup, 0)
+    play(alloc, stack, core, session, tallies, 0)
 }
 
 /// A mutex pool or a spin lock pool.
@@ -226,95 +283,4 @@ impl<'p, T: Value, F: FreeList<T, Kept>, W: Wait + Copy> Side for OnStack<'p, T,
             _ => Ok(Held::Borrowed(self.pool.pull(self.rt)?, None)),
         }
     }
-}
-
-/// Does the session's calls on the pool that keeps nothing. Each item is new.
-pub fn compare_none<T: Value>(setup: Setup) -> Result<Figures, Stopped> {
-    let init = Maker::new(&setup.running)?;
-    let core = OnCore::new(NoneCore::<T, Maker>::new(Maker::new(&setup.core)?));
-    let pool = Arc::new(setup.alloc, NoneObjectPool::new(|| init.value::<T>()))?;
-    let calls = setup.session.calls;
-    let mut comparison = Comparison::new(OnNone { given: None }, core, setup);
-    for _ in 0..calls {
-        let call = comparison.drawn_call();
-        let given = match call {
-            Call::Pull => Some(pool.pull()),
-            Call::PullOwned => Some(pool.pull_owned()),
-            _ => None,
-        };
-        comparison.running.given = given;
-        comparison.call(call)?;
-    }
-    let (core, setup) = comparison.end()?;
-    setup.end(core)
-}
-
-/// What the pool that keeps nothing gave. It is asked where its closure is known.
-#[derive(Drop)]
-struct OnNone<T> {
-    given: Option<Result<NoneReusable<T>, PullError>>,
-}
-
-impl<T: Value> Side for OnNone<T> {
-    type Item = Held<NoneReusable<T>, NoneReusable<T>>;
-
-    fn give(&mut self, _ask: Ask, _tally: &Arc<SideTally>) -> Result<Self::Item, PullError> {
-        match self.given.take() {
-            Some(given) => Ok(Held::Borrowed(given?, None)),
-            None => Err(PullError::Memory),
-        }
-    }
-}
-
-impl<I: Init<Vec<u8>, Empty>, R: Reset<Vec<u8>, Empty>> Pulled for Buffer<'_, I, R> {
-    fn shown(&self) -> u64 {
-        told(self.as_slice())
-    }
-
-    fn overwrite(&mut self, content: u64) {
-        let _appended = self.append(&content.to_le_bytes()).is_ok();
-    }
-
-    fn number(&self) -> Option<u128> {
-        Some(number_of(self.page_number(), self.page_id()))
-    }
-}
-
-/// A pool of buffers, which it gives under a borrow alone. Its parameter stands for nothing: the
-/// checker refuses the impl without one.
-#[derive(Drop)]
-struct OnBuffers<'p, V> {
-    pool: &'p BufferPool<Maker, Maker>,
-    marker: PhantomData<V>,
-}
-
-impl<'p, V: Copy> Side for OnBuffers<'p, V> {
-    type Item = Buffer<'p, Maker, Maker>;
-
-    fn give(&mut self, _ask: Ask, _tally: &Arc<SideTally>) -> Result<Self::Item, PullError> {
-        self.pool.pull()
-    }
-}
-
-/// Does the session's calls on a buffer pool, which always has a limit.
-pub fn compare_buffers(setup: Setup) -> Result<Figures, Stopped> {
-    setup.refuse_opening();
-    let pages = setup.session.limit.unwrap_or(70).max(1);
-    let (init, reset) = closures(&setup.running)?;
-    let pool = BufferPool::new(setup.alloc, init, reset, pages);
-    let (init, reset) = closures(&setup.core)?;
-    let core: Result<LinearCore<Vec<u8>, Maker, Maker, Empty>, PullError> = LinearCore::with_limit(
-        setup.alloc,
-        init,
-        reset,
-        pages,
-    );
-    let (pool, core) = setup.opened(pool, core)?;
-    let buffers = OnBuffers::<u8> {
-        pool: &pool,
-        marker: PhantomData,
-    };
-    let (core, setup) = play(buffers, OnCore::new(core), setup, 0)?;
-    drop(pool);
-    setup.end(core)
 }

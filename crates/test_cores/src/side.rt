@@ -1,7 +1,8 @@
 //! The two sides that are compared, a running pool and the core of its kind, and their items.
-use crate::answer::Call;
+use crate::answer::{Call, Stopped};
 use crate::dice::Dice;
-use crate::value::{SideTally, Value};
+use crate::tally::SideTally;
+use crate::value::Value;
 use lockfree_object_pool::PullError;
 use lockfree_object_pool::page::PageId;
 use object_pool_cores::sequential::{Item, SequentialPool};
@@ -9,17 +10,22 @@ use std::marker::PhantomData;
 use std::ops::DerefMut;
 use std::sync::Arc;
 
+/// The page at which a walk begins, and how many pages it may go over.
+#[derive(Clone, Copy)]
+pub struct Walk {
+    pub page: usize,
+    pub limit: Option<usize>,
+}
+
 /// What both sides are asked for.
 #[derive(Clone, Copy)]
 pub struct Ask {
     pub call: Call,
-    /// The page at which a walk begins, and how many pages it may go over.
-    pub page: usize,
-    pub limit: Option<usize>,
+    pub walk: Walk,
     /// The number of a value that is attached.
     pub number: u64,
     /// The page of the item that the core gave.
-    pub near: usize,
+    pub page: usize,
 }
 
 /// An item that is held.
@@ -34,7 +40,7 @@ pub trait Pulled: Drop {
 }
 
 /// A side, which gives items.
-pub trait Side: Drop {
+pub trait Side {
     type Item: Pulled;
 
     /// Gives an item. Values that are attached count on the side's tally.
@@ -46,15 +52,21 @@ pub trait Side: Drop {
         true
     }
 
-    /// Draws the page at which the next walk begins and its limit, where pages are asked by
-    /// themselves.
-    fn draw_walk(&self, _dice: &mut Dice) -> (usize, Option<usize>) {
-        (0, None)
+    /// Draws over which pages the next walk goes, where pages are asked by themselves.
+    fn draw_walk(&self, _dice: &mut Dice) -> Walk {
+        Walk {
+            page: 0,
+            limit: None,
+        }
     }
 
     /// Returns how many pages there are, where pages are asked by themselves.
-    fn pages(&mut self) -> usize {
-        0
+    ///
+    /// # Errors
+    ///
+    /// `Stopped` if memory is refused.
+    fn pages(&mut self) -> Result<usize, Stopped> {
+        Ok(0)
     }
 }
 
@@ -94,11 +106,11 @@ impl<T, C> OnCore<T, C> {
     }
 }
 
-impl<T: Value, C: SequentialPool<T> + Drop> Side for OnCore<T, C> {
+impl<T: Value, C: SequentialPool<T>> Side for OnCore<T, C> {
     type Item = Item<T>;
 
     fn give(&mut self, ask: Ask, tally: &Arc<SideTally>) -> Result<Item<T>, PullError> {
-        if !matches!(ask.call, Call::Attach | Call::AttachOwned) {
+        if !ask.call.attaches() {
             return self.core.pull();
         }
         let value = attached(tally, ask.number)?;
@@ -115,6 +127,10 @@ impl<T: Value, C: SequentialPool<T> + Drop> Side for OnCore<T, C> {
 }
 
 /// Makes a value that is attached. It is the same on both sides.
+///
+/// # Errors
+///
+/// `Memory` if the tally can have no more owners.
 pub fn attached<T: Value>(tally: &Arc<SideTally>, number: u64) -> Result<T, PullError> {
     T::new(tally, number).ok_or(PullError::Memory)
 }

@@ -6,19 +6,17 @@
 //! of the pages taken since it opened, and before a refusal those of the pages that there were at
 //! some moment since then. It asks each page once at most, so it reads no more words than there are
 //! pages.
-use super::step::{Adds, Step};
-use super::table::bit;
+use super::adds::Adds;
+use super::step::Step;
 use lockfree_object_pool::PullError;
 use lockfree_object_pool::page::PageId;
 use object_pool_cores::interleave::{Seen, World};
-use std::alloc::Global;
+use std::alloc::{AllocError, Global};
 use thiserror::Error;
 
 /// What a run may not have.
 #[derive(Clone, Copy, Debug, Error)]
 pub enum Unlawful {
-    #[error("out of memory")]
-    Memory,
     #[error("an agent opens out of turn")]
     Opening,
     #[error("an agent does what it may not do at its stage")]
@@ -40,8 +38,6 @@ pub enum Unlawful {
     #[error("the world at the end isn't the pool at the end")]
     OtherPool,
 }
-
-type Judged = Result<(), Unlawful>;
 
 /// How far an agent is.
 #[derive(Clone, Copy, PartialEq, Eq)]
@@ -65,17 +61,24 @@ struct Agent {
     asked: usize,
 }
 
-/// What lies at a number, or `None` if it is out, and the last act that returned it, or 0.
+/// What lies at a number.
+#[derive(Clone, Copy, PartialEq, Eq)]
+enum Place {
+    Free(u32),
+    Out,
+}
+
+/// A number, with the last act that returned it.
 #[derive(Clone, Copy)]
-struct Place {
-    value: Option<u32>,
-    returned: usize,
+struct Numbered {
+    place: Place,
+    returned: Option<usize>,
 }
 
 /// One pool and its agents, after the acts until now.
 #[derive(Drop)]
 pub struct Judge {
-    places: Vec<Place>,
+    numbers: Vec<Numbered>,
     agents: Vec<Agent>,
     acts: usize,
     limit: Option<usize>,
@@ -86,86 +89,107 @@ pub struct Judge {
 const ITEMS: usize = 32;
 
 impl Judge {
-    /// Creates a pool without pages.
-    pub fn new(alloc: Global, limit: Option<usize>, reset: Adds) -> Judge {
-        Judge {
-            places: Vec::new(alloc),
+    /// Creates a pool of one page, whose first value is given.
+    ///
+    /// # Errors
+    ///
+    /// If memory is refused.
+    pub fn new(
+        alloc: Global,
+        limit: Option<usize>,
+        reset: Adds,
+        first: u32,
+    ) -> Result<Judge, AllocError> {
+        let mut judge = Judge {
+            numbers: Vec::new(alloc),
             agents: Vec::new(alloc),
             acts: 0,
             limit,
             reset,
-        }
+        };
+        judge.grow(first)?;
+        Ok(judge)
     }
 
-    /// A page more, whose first value is given.
-    pub fn grow(&mut self, first: u32) -> Judged {
-        for further in 0..32 {
-            let place = Place {
-                value: Some(first.wrapping_add(further)),
-                returned: 0,
-            };
-            self.places.push(place).map_err(|_| Unlawful::Memory)?;
+    /// A page more.
+    fn grow(&mut self, first: u32) -> Result<(), AllocError> {
+        let mut value = first;
+        for _ in 0..ITEMS {
+            self.numbers.push(Numbered {
+                place: Place::Free(value),
+                returned: None,
+            })?;
+            value = value.wrapping_add(1);
         }
         Ok(())
     }
 
     fn pages(&self) -> usize {
-        self.places.len() / ITEMS
+        self.numbers.len() / ITEMS
     }
 
     /// Takes the answer to an agent's step into account, and what it holds behind it.
-    pub fn judge(&mut self, agent: usize, step: Step, seen: Seen, held: Option<u32>) -> Judged {
-        self.hear(step, seen)?;
-        if seen != Seen::NotEnabled && step != Step::Begin {
-            self.count(agent)?;
+    ///
+    /// # Errors
+    ///
+    /// If memory is refused.
+    pub fn judge(
+        &mut self,
+        agent: usize,
+        step: Step,
+        seen: Seen,
+        held: Option<u32>,
+    ) -> Result<Result<(), Unlawful>, AllocError> {
+        let mut judged = self.hear(step, seen)?;
+        if judged.is_ok() && seen != Seen::NotEnabled && step != Step::Begin {
+            judged = self.count(agent);
         }
-        match held {
-            Some(shown) if self.holding(agent)?.1 != shown => Err(Unlawful::OtherValue),
-            _ => Ok(()),
+        if judged.is_ok() {
+            judged = self.agrees(agent, held);
         }
+        Ok(judged)
     }
 
     /// What the answer to a step changes.
-    fn hear(&mut self, step: Step, seen: Seen) -> Judged {
-        match (seen, step) {
-            (Seen::Began(agent), _) => self.open(agent),
+    fn hear(&mut self, step: Step, seen: Seen) -> Result<Result<(), Unlawful>, AllocError> {
+        let judged = match (seen, step) {
+            (Seen::NotEnabled, _) => return Ok(Ok(())),
+            (Seen::Began(agent), _) => return self.open(agent),
             (Seen::Word(agent, _), _) => self.ask(agent),
-            (Seen::Made(agent), Step::MakePage(first)) => {
-                let mut making = self.looking(agent)?;
-                making.made = first;
-                self.set(agent, making);
-                Ok(())
-            }
+            (Seen::Made(agent), Step::MakePage(first)) => self.make(agent, first),
             (Seen::Pulled(agent, number), _) => self.pull(agent, number),
-            (Seen::Wrote(agent), Step::Write(value)) => {
-                let (number, _) = self.holding(agent)?;
-                self.to_stage(agent, Stage::Holds(number, value));
-                Ok(())
-            }
+            (Seen::Wrote(agent), Step::Write(value)) => self.write(agent, value),
             (Seen::Returned(agent, number), _) => self.give(agent, number),
-            (Seen::Linked(agent), _) => self.link(agent),
+            (Seen::Linked(agent), _) => return self.link(agent),
             (Seen::Refused(agent, cause), _) => self.refuse(agent, cause),
+            _ => Ok(()),
+        };
+        Ok(judged)
+    }
+
+    /// Counts a step that an agent took.
+    fn count(&mut self, agent: usize) -> Result<(), Unlawful> {
+        let limit = self.limit;
+        let Some(agent) = self.agents.get_mut(agent) else {
+            return Ok(());
+        };
+        agent.steps = agent.steps.saturating_add(1);
+        match limit {
+            Some(pages) if agent.stage == Stage::Looking => {
+                let most = pages.saturating_mul(36).saturating_sub(2);
+                if agent.steps < most {
+                    Ok(())
+                } else {
+                    Err(Unlawful::TooManySteps)
+                }
+            }
             _ => Ok(()),
         }
     }
 
-    /// Counts a step that an agent took.
-    fn count(&mut self, agent: usize) -> Judged {
-        let Some(mut stepping) = self.agents.get(agent).copied() else {
-            return Ok(());
-        };
-        stepping.steps = stepping.steps.saturating_add(1);
-        self.set(agent, stepping);
-        let most = self.limit.unwrap_or(usize::MAX).saturating_mul(36);
-        if stepping.stage == Stage::Looking && stepping.steps >= most.saturating_sub(2) {
-            return Err(Unlawful::TooManySteps);
-        }
-        Ok(())
-    }
-
-    fn open(&mut self, agent: usize) -> Judged {
+    fn open(&mut self, agent: usize) -> Result<Result<(), Unlawful>, AllocError> {
         if agent != self.agents.len() {
-            return Err(Unlawful::Opening);
+            return Ok(Err(Unlawful::Opening));
         }
         self.acts = self.acts.saturating_add(1);
         let opened = Agent {
@@ -176,7 +200,8 @@ impl Judge {
             steps: 0,
             asked: 0,
         };
-        self.agents.push(opened).map_err(|_| Unlawful::Memory)
+        self.agents.push(opened)?;
+        Ok(Ok(()))
     }
 
     /// The agent, where it looks for an item.
@@ -189,15 +214,14 @@ impl Judge {
 
     /// What an agent holds.
     fn holding(&self, agent: usize) -> Result<(usize, u32), Unlawful> {
-        match self.agents.get(agent).map(|agent| agent.stage) {
-            Some(Stage::Holds(number, value)) => Ok((number, value)),
+        match self.agents.get(agent) {
+            Some(
+                Agent {
+                    stage: Stage::Holds(number, value),
+                    ..
+                },
+            ) => Ok((*number, *value)),
             _ => Err(Unlawful::Stage),
-        }
-    }
-
-    fn set(&mut self, agent: usize, to: Agent) {
-        if let Some(agent) = self.agents.get_mut(agent) {
-            *agent = to;
         }
     }
 
@@ -209,84 +233,135 @@ impl Judge {
     }
 
     /// Each page is asked once, whether a hint named it or not.
-    fn ask(&mut self, agent: usize) -> Judged {
-        let mut asking = self.looking(agent)?;
-        asking.asked = asking.asked.saturating_add(1);
-        self.set(agent, asking);
-        if asking.asked > self.pages() {
-            return Err(Unlawful::AskedAgain);
+    fn ask(&mut self, agent: usize) -> Result<(), Unlawful> {
+        let asked = self.looking(agent)?.asked.saturating_add(1);
+        if let Some(agent) = self.agents.get_mut(agent) {
+            agent.asked = asked;
+        }
+        if asked <= self.pages() {
+            Ok(())
+        } else {
+            Err(Unlawful::AskedAgain)
+        }
+    }
+
+    fn make(&mut self, agent: usize, first: u32) -> Result<(), Unlawful> {
+        self.looking(agent)?;
+        if let Some(agent) = self.agents.get_mut(agent) {
+            agent.made = first;
         }
         Ok(())
     }
 
-    fn pull(&mut self, agent: usize, number: u128) -> Judged {
+    fn pull(&mut self, agent: usize, number: u128) -> Result<(), Unlawful> {
         self.looking(agent)?;
-        let number = usize::try_from(number).map_err(|_| Unlawful::NotFree)?;
-        let Some(place) = self.places.get_mut(number) else {
+        let Ok(number) = usize::try_from(number) else {
             return Err(Unlawful::NotFree);
         };
-        let value = place.value.take().ok_or(Unlawful::NotFree)?;
+        let Some(here) = self.numbers.get_mut(number) else {
+            return Err(Unlawful::NotFree);
+        };
+        let Place::Free(value) = here.place else {
+            return Err(Unlawful::NotFree);
+        };
+        here.place = Place::Out;
         self.to_stage(agent, Stage::Holds(number, value));
         Ok(())
     }
 
-    fn give(&mut self, agent: usize, number: u128) -> Judged {
+    fn write(&mut self, agent: usize, value: u32) -> Result<(), Unlawful> {
+        let (number, _) = self.holding(agent)?;
+        self.to_stage(agent, Stage::Holds(number, value));
+        Ok(())
+    }
+
+    fn give(&mut self, agent: usize, number: u128) -> Result<(), Unlawful> {
         let (held, value) = self.holding(agent)?;
         if held as u128 != number {
             return Err(Unlawful::Stage);
         }
         self.to_stage(agent, Stage::Done);
-        if let Some(place) = self.places.get_mut(held) {
-            *place = Place {
-                value: Some(value.wrapping_add(self.reset.number)),
-                returned: self.acts,
-            };
+        let kept = self.reset.sum(value);
+        if let Some(here) = self.numbers.get_mut(held) {
+            here.place = Place::Free(kept);
+            here.returned = Some(self.acts);
         }
         Ok(())
     }
 
-    fn link(&mut self, agent: usize) -> Judged {
-        let linking = self.looking(agent)?;
+    fn link(&mut self, agent: usize) -> Result<Result<(), Unlawful>, AllocError> {
+        let agent_then = match self.looking(agent) {
+            Ok(agent) => agent,
+            Err(unlawful) => return Ok(Err(unlawful)),
+        };
         if self.limit == Some(self.pages()) {
-            return Err(Unlawful::PastLimit);
+            return Ok(Err(Unlawful::PastLimit));
         }
-        self.saw_taken(&linking, self.pages())?;
+        if !self.saw_taken(&agent_then, self.pages()) {
+            return Ok(Err(Unlawful::NotSeenTaken));
+        }
         self.to_stage(agent, Stage::Looking);
-        self.grow(linking.made)
+        self.grow(agent_then.made)?;
+        Ok(Ok(()))
     }
 
-    fn refuse(&mut self, agent: usize, cause: PullError) -> Judged {
-        let refused = self.looking(agent)?;
-        if cause != PullError::Limit {
-            self.saw_taken(&refused, refused.pages_then)?;
-        } else if self.limit == Some(self.pages()) {
-            self.saw_taken(&refused, self.pages())?;
+    fn refuse(&mut self, agent: usize, cause: PullError) -> Result<(), Unlawful> {
+        let agent_then = self.looking(agent)?;
+        let pages = if cause == PullError::Limit {
+            self.pages()
         } else {
+            agent_then.pages_then
+        };
+        if cause == PullError::Limit && self.limit != Some(pages) {
             return Err(Unlawful::EarlyLimit);
+        }
+        if !self.saw_taken(&agent_then, pages) {
+            return Err(Unlawful::NotSeenTaken);
         }
         self.to_stage(agent, Stage::Done);
         Ok(())
     }
 
-    /// Each number of the first pages has to have been out at some moment since the agent opened.
-    /// One that is free now was out before its last return.
-    fn saw_taken(&self, agent: &Agent, pages: usize) -> Judged {
-        for place in self.places.iter().take(pages.saturating_mul(ITEMS)) {
-            if place.value.is_some() && place.returned <= agent.opened {
-                return Err(Unlawful::NotSeenTaken);
+    /// Whether each number of the first pages was out at some moment since the agent opened. One
+    /// that is free now was out before its last return.
+    fn saw_taken(&self, agent: &Agent, pages: usize) -> bool {
+        let first = self.numbers.iter().take(pages.saturating_mul(ITEMS));
+        for number in first {
+            let found = match number.place {
+                Place::Out => true,
+                Place::Free(_) => matches!(number.returned, Some(act) if agent.opened < act),
+            };
+            if !found {
+                return false;
             }
         }
-        Ok(())
+        true
     }
 
-    /// The world has to read as the pool in which the run ends, where each number that is out has
-    /// one holder.
-    pub fn ends_as(&self, world: &World<u32, Adds>) -> Judged {
-        let mut is_same = world.pages() == self.pages() && self.out() == self.holders();
-        for (number, place) in self.places.iter().enumerate() {
-            is_same &= read(world, number) == Some(place.value);
+    /// Whether an agent that has its item has the value of the run.
+    fn agrees(&self, agent: usize, held: Option<u32>) -> Result<(), Unlawful> {
+        match held {
+            Some(shown) if self.holding(agent)?.1 != shown => Err(Unlawful::OtherValue),
+            _ => Ok(()),
         }
-        if is_same {
+    }
+
+    /// Returns whether the world reads as the pool in which the run ends, where each number that is
+    /// out has one holder.
+    ///
+    /// # Errors
+    ///
+    /// The rule that is broken.
+    pub fn ends_as(&self, world: &World<u32, Adds>) -> Result<(), Unlawful> {
+        if world.pages() != self.pages() {
+            return Err(Unlawful::OtherPool);
+        }
+        for (number, numbered) in self.numbers.iter().enumerate() {
+            if read(world, number) != Some(numbered.place) {
+                return Err(Unlawful::OtherPool);
+            }
+        }
+        if self.out() == self.holders() {
             Ok(())
         } else {
             Err(Unlawful::OtherPool)
@@ -295,25 +370,33 @@ impl Judge {
 
     /// How many numbers are out.
     fn out(&self) -> usize {
-        let places = self.places.iter();
-        places.filter(|place| place.value.is_none()).count()
+        let mut out = 0usize;
+        for number in self.numbers.iter() {
+            if number.place == Place::Out {
+                out = out.saturating_add(1);
+            }
+        }
+        out
     }
 
     /// How many agents hold a number.
     fn holders(&self) -> usize {
-        let agents = self.agents.iter();
-        agents
-            .filter(|agent| matches!(agent.stage, Stage::Holds(_, _)))
-            .count()
+        let mut holders = 0usize;
+        for agent in self.agents.iter() {
+            if matches!(agent.stage, Stage::Holds(_, _)) {
+                holders = holders.saturating_add(1);
+            }
+        }
+        holders
     }
 }
 
-/// What lies at a number of the world, or `None` if it is out.
-fn read(world: &World<u32, Adds>, number: usize) -> Option<Option<u32>> {
+/// What lies at a number of the world.
+fn read(world: &World<u32, Adds>, number: usize) -> Option<Place> {
     let page = number / ITEMS;
     let id = PageId::try_from(number % ITEMS).ok()?;
-    if world.word(page)? & bit(number) == 0 {
-        return Some(None);
+    if world.word(page)? & 1u32.wrapping_shl(u32::from(id)) == 0 {
+        return Some(Place::Out);
     }
-    Some(Some(*world.place(page, id)?))
+    Some(Place::Free(*world.place(page, id)?))
 }

@@ -1,7 +1,5 @@
-//! One step of an agent, without the values of a page, and what resets the values.
+//! One step of an agent, without the values of a page.
 use lockfree_object_pool::PullError;
-use lockfree_object_pool::clean::AnyValue;
-use lockfree_object_pool::closures::Reset;
 use object_pool_cores::interleave::{Event, Prepared};
 use std::alloc::Global;
 use std::cell::Cell;
@@ -26,6 +24,10 @@ pub enum Step {
 }
 
 /// Makes 32 values, of which each is greater by 1 than the one before.
+///
+/// # Errors
+///
+/// `Memory`.
 pub fn values_from(alloc: Global, first: u32) -> Result<Prepared<u32>, PullError> {
     let next = Cell::new(first);
     Prepared::make(
@@ -39,6 +41,10 @@ pub fn values_from(alloc: Global, first: u32) -> Result<Prepared<u32>, PullError
 }
 
 /// Returns the step as an event of the world.
+///
+/// # Errors
+///
+/// `Memory`.
 pub fn event_of(alloc: Global, agent: usize, step: Step) -> Result<Event<u32>, PullError> {
     Ok(match step {
         Step::Begin => Event::Begin,
@@ -54,17 +60,4 @@ pub fn event_of(alloc: Global, agent: usize, step: Step) -> Result<Event<u32>, P
         Step::MoveHome => Event::MoveHome(agent),
         Step::OrMask => Event::OrMask(agent),
     })
-}
-
-/// A reset that tells how often it ran: it adds a number, and begins again at 0 past the greatest
-/// one.
-#[derive(Clone, Copy, Drop)]
-pub struct Adds {
-    pub number: u32,
-}
-
-impl Reset<u32, AnyValue> for Adds {
-    fn reset(&self, value: &mut u32) {
-        *value = value.wrapping_add(self.number);
-    }
 }
